@@ -1,0 +1,8 @@
+// The bytes of every line that a program prints.
+mod lines;
+mod numbers;
+
+pub use lines::no_chain_line;
+pub use lines::plan_line;
+pub use lines::refusal_line;
+pub use numbers::put_number;

@@ -1,0 +1,4 @@
+pub mod Steps
+pub mod Parted
+pub mod PathLaws
+pub mod Wholes
