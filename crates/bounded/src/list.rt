@@ -1,6 +1,7 @@
 // A list of at most N items: the first len of the N places are in use.
 ghost use Prim.Native.Nat.{_≤_};
 ghost use lib.ListN.{length};
+
 mod methods;
 
 pub struct ArrayVec<T, const N: usize> {

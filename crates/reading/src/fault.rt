@@ -98,7 +98,10 @@ pub impl From<(Kind, LineFault)> for TextFault as TextFaultFromLine {
     ghost converts = { λ p r. r ≡ inText (p .0) (p .1) };
 
     fn from(p: (Kind, LineFault)) -> TextFault {
-        TextFault { kind: p.0, fault: p.1 }
+        TextFault {
+            kind: p.0,
+            fault: p.1,
+        }
     }
 }
 
@@ -106,7 +109,10 @@ pub impl From<(u8, TextFault)> for SiteFault as SiteFaultFromText {
     ghost converts = { λ p r. r ≡ atHost (p .0) (p .1) };
 
     fn from(p: (u8, TextFault)) -> SiteFault {
-        SiteFault { host: p.0, fault: p.1 }
+        SiteFault {
+            host: p.0,
+            fault: p.1,
+        }
     }
 }
 

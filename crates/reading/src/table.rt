@@ -7,9 +7,9 @@ ghost use Rattle.std.specs.declared.result.Result.{Result};
 ghost use Rattle.text.specs.Cuts.{lines};
 ghost use Rattle.reading.specs.declared.fault.LineFault.{LineFault as Fault};
 ghost use Rattle.reading.specs.Reads.{told, valueOr, outcome, readFrom, readText, passedOver};
-use text::next_line;
 use crate::fault::LineFault;
 use crate::fault::Refusal;
+use text::next_line;
 
 pub trait Table {
     // What a table looks up in, and no line alters.
@@ -70,7 +70,10 @@ pub fn read_text<T: Table>(table: &mut T, text: &[u8]) -> Result<(), LineFault>
 {
     table.clear();
     if text.len() > 8192 {
-        return Err(LineFault { refusal: Refusal::TooLong, line: 0 });
+        return Err(LineFault {
+            refusal: Refusal::TooLong,
+            line: 0,
+        });
     }
     let read = read_lines(table, text);
     if read.is_err() {

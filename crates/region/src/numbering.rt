@@ -32,7 +32,10 @@ pub fn decode(p: u16) -> Option<Privilege>
     if p >= ROOT_ANYWHERE {
         return None;
     }
-    Some(Privilege { host: (p / 177) as u8, right: right_at((p % 177) as u8) })
+    Some(Privilege {
+        host: (p / 177) as u8,
+        right: right_at((p % 177) as u8),
+    })
 }
 
 fn offset_of(right: Right) -> u16

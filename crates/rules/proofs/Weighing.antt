@@ -2,17 +2,17 @@
 use mathlib.Core.Path.{_≡_, refl, sym, ap, _∙_}
 use mathlib.Core.HLevel.{isProp→PathP, ×-prop}
 use mathlib.Core.Bool.{Bool, true, false}
-use mathlib.Core.Logic.{_⊎_, inl, inr}
+use mathlib.Core.Logic.{_⊎_, inl, inr, ⊎-elim}
 use Prim.Native.Nat.{ℕ, _≤_, _<_}
 use native.Mathlib.Omega.{arith}
 use native.Mathlib.Bridge.{le-prop}
 use lib.Dec.{ltb}
-use Rattle.std.proofs.shelf.Tests.{leb-true, le-leb, le-ltb, ltb-true, ltb-false, lt-ltb, cases-order}
+use Rattle.std.proofs.shelf.Tests.{leb-true, le-leb, le-ltb, lt-ltb, cases-order, cases-lt, cond-true, cond-false}
 use Rattle.std.proofs.shelf.Ways.{tells}
 use Rattle.rules.specs.declared.weights.Steps.{Steps}
 use Rattle.rules.specs.declared.weights.Crossings.{Crossings}
 use Rattle.rules.specs.Measures.{Measures}
-use Rattle.rules.specs.Weights.{stop, no-steps, steps-added, steps-at-most, no-crossings, crossed, crossings-added, crossings-at-most}
+use Rattle.rules.specs.Weights.{stop, no-steps, steps-added, steps-at-most, no-crossings, crossed-steps, crossings-added, crossings-at-most}
 
 -- weights with equal numbers are equal
 pub steps-same : (x y : Steps) → x .count ≡ y .count → x ≡ y
@@ -49,30 +49,37 @@ lower-trans x y z p q = grind arith
 lower-antisym : (x y : Crossings) → Lower x y → Lower y x → x ≡ y
 lower-antisym x y p q = crossings-same x y (grind arith) (grind arith)
 
--- a crossing, by whether there is room for it
-crossed-rises : (x : Crossings) (p : Bool) → ltb (x .crossings) 65535 ≡ p → Lower x (crossed x p)
-crossed-rises x true e = inl (omega (arith, ltb-true _ _ e))
-crossed-rises x false e = inr (omega (arith, ltb-false _ _ e, x .fits .0), omega (arith, x .fits .1))
+-- a crossing, by whether the crossings have stopped
+room-left : (c s : ℕ) → c < 65535 → crossed-steps c s ≡ stop s
+room-left c s lt = cond-true (ltb c 65535) (stop s) 65535 (lt-ltb c 65535 lt)
+
+none-left : (c s : ℕ) → 65535 ≤ c → crossed-steps c s ≡ 65535
+none-left c s le = cond-false (ltb c 65535) (stop s) 65535 (le-ltb c 65535 le)
 
 added-rises : (x : Crossings) (b : Bool) → Lower x (crossings-added x b)
 added-rises x false = inr (refl, omega (arith, x .fits .1))
-added-rises x true = crossed-rises x (ltb (x .crossings) 65535) refl
+added-rises x true =
+    ⊎-elim
+    (λ (lt : x .crossings < 65535). inl (omega arith))
+    (λ (le : 65535 ≤ x .crossings). inr (omega (arith, x .fits .0), omega (arith, x .fits .1, none-left (x .crossings) (x .steps) le)))
+    (cases-lt (x .crossings) 65535)
 
-crossed-keeps : (x y : Crossings) (p q : Bool) → ltb (x .crossings) 65535 ≡ p → ltb (y .crossings) 65535 ≡ q → Lower x y → Lower (crossed x p) (crossed y q)
-crossed-keeps x y true true e f (inl h) = inl (omega (arith, ltb-true _ _ e, ltb-true _ _ f))
-crossed-keeps x y true true e f (inr h) = inr (omega (arith, h .0), omega (arith, h .1))
-crossed-keeps x y true false e f h = below-top (crossed x true)
-  where
-    below-top : (z : Crossings) → Lower z (crossed y false)
-    below-top z = grind (arith, z .fits)
-crossed-keeps x y false true e f (inl h) = inl (omega (arith, ltb-false _ _ e, ltb-true _ _ f))
-crossed-keeps x y false true e f (inr h) = inl (omega (arith, ltb-false _ _ e, ltb-true _ _ f, h .0))
-crossed-keeps x y false false e f h = inr (refl, omega arith)
+-- nothing is above the top
+below-top : (x y : Crossings) → 65535 ≤ y .crossings → 65535 ≤ y .steps → Lower x y
+below-top x y c s = grind (arith, x .fits)
 
 added-keeps : (x y : Crossings) (b : Bool) → Lower x y → Lower (crossings-added x b) (crossings-added y b)
 added-keeps x y false (inl h) = inl h
 added-keeps x y false (inr h) = inr (h .0, omega (arith, h .1))
-added-keeps x y true h = crossed-keeps x y (ltb (x .crossings) 65535) (ltb (y .crossings) 65535) refl refl h
+added-keeps x y true h =
+    ⊎-elim
+    (λ (lt : y .crossings < 65535). within lt h)
+    (λ (le : 65535 ≤ y .crossings). below-top (crossings-added x true) (crossings-added y true) (omega arith) (omega (arith, none-left (y .crossings) (y .steps) le)))
+    (cases-lt (y .crossings) 65535)
+  where
+    within : y .crossings < 65535 → Lower x y → Lower (crossings-added x true) (crossings-added y true)
+    within lt (inl k) = inl (omega arith)
+    within lt (inr k) = inr (omega (arith, k .0), omega (arith, k .1, room-left (x .crossings) (x .steps) (omega (arith, k .0)), room-left (y .crossings) (y .steps) lt))
 
 pub crossings-measures : Measures no-crossings crossings-added crossings-at-most
 crossings-measures = record {
@@ -83,12 +90,9 @@ crossings-measures = record {
   adding-keeps-the-order = λ x y b p. to-test (crossings-added x b) (crossings-added y b) (added-keeps x y b (from-test x y p));
 }
 
--- what the three ways of adding a step give
+-- what the two ways of adding a step give
 pub added-within : (w r : Crossings) (b : Bool) → b ≡ false → r .crossings ≡ w .crossings → r .steps ≡ stop (w .steps) → r ≡ crossings-added w b
 added-within w r b e p q = crossings-same r (crossings-added w false) p q ∙ ap (crossings-added w) (sym e)
 
-pub added-crossing : (w r : Crossings) (b : Bool) → b ≡ true → w .crossings < 65535 → r .crossings ≡ stop (w .crossings) → r .steps ≡ stop (w .steps) → r ≡ crossings-added w b
-added-crossing w r b e lt p q = crossings-same r (crossed w true) p q ∙ ap (crossed w) (sym (lt-ltb (w .crossings) 65535 lt)) ∙ ap (crossings-added w) (sym e)
-
-pub added-past : (w r : Crossings) (b : Bool) → b ≡ true → 65535 ≤ w .crossings → r .crossings ≡ 65535 → r .steps ≡ 65535 → r ≡ crossings-added w b
-added-past w r b e le p q = crossings-same r (crossed w false) p q ∙ ap (crossed w) (sym (le-ltb (w .crossings) 65535 le)) ∙ ap (crossings-added w) (sym e)
+pub added-crossing : (w r : Crossings) (b : Bool) → b ≡ true → r .crossings ≡ stop (w .crossings) → r .steps ≡ crossed-steps (w .crossings) (w .steps) → r ≡ crossings-added w b
+added-crossing w r b e p q = crossings-same r (crossings-added w true) p q ∙ ap (crossings-added w) (sym e)

@@ -1,5 +1,5 @@
 -- The two measures: steps, and crossings then steps, each half stopping at 65,535.
-use mathlib.Core.Bool.{Bool, true, false, _||_, _&&_}
+use mathlib.Core.Bool.{Bool, true, false, cond, _||_, _&&_}
 use Prim.Native.Nat.{ℕ, _+_, _≤_, min}
 use native.Mathlib.Omega.{arith}
 use lib.Dec.{leb, ltb, eqb}
@@ -28,15 +28,22 @@ steps-at-most x y = leb (x .count) (y .count)
 abbrev pub no-crossings : Crossings
 no-crossings = record { crossings = 0; steps = 0; fits = (omega arith, omega arith) }
 
--- a crossing more where there is room for one, and (65,535, 65,535) past that
-abbrev pub crossed : Crossings → Bool → Crossings
-crossed w true = record { crossings = stop (w .crossings); steps = stop (w .steps); fits = (stop-fits (w .crossings), stop-fits (w .steps)) }
-crossed w false = record { crossings = 65535; steps = 65535; fits = (omega arith, omega arith) }
+-- the steps once a crossing is added: one more, or 65,535 where the crossings have stopped
+abbrev pub crossed-steps : ℕ → ℕ → ℕ
+crossed-steps crossings steps = cond (ltb crossings 65535) (stop steps) 65535
 
--- a step more, crossing or not
+-- that fits sixteen bits too
+pub crossed-fits : (crossings steps : ℕ) → crossed-steps crossings steps ≤ 65535
+crossed-fits crossings steps = fits (ltb crossings 65535)
+  where
+    fits : (b : Bool) → cond b (stop steps) 65535 ≤ 65535
+    fits true = stop-fits steps
+    fits false = omega arith
+
+-- a step more, crossing or not; a crossing past 65,535 gives (65,535, 65,535)
 abbrev pub crossings-added : Crossings → Bool → Crossings
 crossings-added w false = record { crossings = w .crossings; steps = stop (w .steps); fits = (w .fits .0, stop-fits (w .steps)) }
-crossings-added w true = crossed w (ltb (w .crossings) 65535)
+crossings-added w true = record { crossings = stop (w .crossings); steps = crossed-steps (w .crossings) (w .steps); fits = (stop-fits (w .crossings), crossed-fits (w .crossings) (w .steps)) }
 
 -- fewer crossings, or as many and at most as many steps
 abbrev pub crossings-at-most : Crossings → Crossings → Bool

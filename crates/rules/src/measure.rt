@@ -1,7 +1,7 @@
 ghost use mathlib.Core.Path.{_≡_};
 ghost use mathlib.Core.Bool.{Bool, true};
 ghost use Rattle.rules.specs.Measures.{Measures};
-ghost use Rattle.rules.specs.Weights.{stop, no-steps, steps-added, steps-at-most, no-crossings, crossings-added, crossings-at-most};
+ghost use Rattle.rules.specs.Weights.{stop, crossed-steps, no-steps, steps-added, steps-at-most, no-crossings, crossings-added, crossings-at-most};
 use crate::weights::Crossings;
 use crate::weights::Steps;
 
@@ -33,6 +33,17 @@ fn stopped(n: u16) -> u16
     ensures { λ r. ⌜ r ≡ stop n ⌝ }
 {
     if n < 65535 { n + 1 } else { 65535 }
+}
+
+// The steps once a crossing is added: one more, or 65,535 where the crossings have stopped.
+fn crossed_steps(crossings: u16, steps: u16) -> u16
+    ensures { λ r. ⌜ r ≡ crossed-steps crossings steps ⌝ }
+{
+    if crossings < 65535 {
+        stopped(steps)
+    } else {
+        65535
+    }
 }
 
 pub impl Measure for Steps as StepsMeasure {
@@ -72,21 +83,15 @@ pub impl Measure for Crossings as CrossingsMeasure {
     }
 
     fn add(&self, crossing: bool) -> Crossings {
-        let steps = stopped(self.steps);
-        if !crossing {
-            Crossings {
-                crossings: self.crossings,
-                steps,
-            }
-        } else if self.crossings < 65535 {
+        if crossing {
             Crossings {
                 crossings: stopped(self.crossings),
-                steps,
+                steps: crossed_steps(self.crossings, self.steps),
             }
         } else {
             Crossings {
-                crossings: 65535,
-                steps: 65535,
+                crossings: self.crossings,
+                steps: stopped(self.steps),
             }
         }
     }

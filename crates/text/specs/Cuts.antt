@@ -11,7 +11,7 @@ use Rattle.std.specs.shelf.Lists.{kept-by}
 use Rattle.std.specs.declared.option.Option.{Option}
 use Rattle.std.specs.declared.option.Option.the-variants.{Some, None}
 use Rattle.text.specs.declared.cuts.Mark.{Mark}
-use Rattle.text.specs.declared.cuts.Mark.the-variants.{Newline, Blank, Colon, Comma, Slash, Equals}
+use Rattle.text.specs.declared.cuts.Mark.the-variants.{Newline, Blank, Colon, Comma, Slash, Equals, Hash}
 
 abbrev pub marks : Mark → ℕ → Bool
 marks Newline b = eqb b 10
@@ -20,6 +20,7 @@ marks Colon b = eqb b 58
 marks Comma b = eqb b 44
 marks Slash b = eqb b 47
 marks Equals b = eqb b 61
+marks Hash b = eqb b 35
 
 -- the bytes before the first mark, or all
 abbrev pub until : (ℕ → Bool) → List ℕ → List ℕ

@@ -2,3 +2,4 @@ pub mod Bytes
 pub mod Cuts
 pub mod Paths
 pub mod Kept
+pub mod PartLaws

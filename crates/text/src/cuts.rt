@@ -6,6 +6,7 @@ ghost use lib.ListN.{length};
 ghost use Rattle.std.specs.Options.{mapped};
 ghost use Rattle.std.specs.Slices.{found};
 ghost use Rattle.text.specs.Cuts.{marks, until, past, fields, fieldsPast, lines, words, Next, Splits};
+ghost use Rattle.text.specs.PartLaws.{LinesJoined, FieldsJoined, WordsApart};
 
 // What ends a part of a text.
 #[derive(Clone, Copy)]
@@ -16,6 +17,7 @@ pub enum Mark {
     Comma,
     Slash,
     Equals,
+    Hash,
 }
 
 fn is_mark(m: Mark, b: u8) -> bool
@@ -28,6 +30,7 @@ fn is_mark(m: Mark, b: u8) -> bool
         (Mark::Comma, ',') => true,
         (Mark::Slash, '/') => true,
         (Mark::Equals, '=') => true,
+        (Mark::Hash, '#') => true,
         _ => false,
     }
 }
@@ -49,7 +52,8 @@ pub fn cut<'a>(s: &'a [u8], m: Mark) -> (&'a [u8], Option<&'a [u8]>)
 
 // The bytes before the first mark and those past it, or none where there is no mark.
 pub fn split_once<'a>(s: &'a [u8], m: Mark) -> Option<(&'a [u8], &'a [u8])>
-    ensures { λ r. ⌜ Splits m (now (s .entry)) r ⌝ }
+    ensures split { λ r. ⌜ Splits m (now (s .entry)) r ⌝ }
+    ensures joined { λ _. ⌜ FieldsJoined m (now (s .entry)) ⌝ }
 {
     let (part, after) = cut(s, m);
     match after {
@@ -60,7 +64,8 @@ pub fn split_once<'a>(s: &'a [u8], m: Mark) -> Option<(&'a [u8], &'a [u8])>
 
 // The first line, and the text past it.
 pub fn next_line<'a>(s: &'a [u8]) -> Option<(&'a [u8], &'a [u8])>
-    ensures { λ r. ⌜ Next lines (now (s .entry)) r ⌝ }
+    ensures next { λ r. ⌜ Next lines (now (s .entry)) r ⌝ }
+    ensures joined { λ _. ⌜ LinesJoined (now (s .entry)) ⌝ }
 {
     if s.is_empty() {
         return None;
@@ -74,7 +79,8 @@ pub fn next_line<'a>(s: &'a [u8]) -> Option<(&'a [u8], &'a [u8])>
 
 // The first word, and the text past it.
 pub fn next_word<'a>(s: &'a [u8]) -> Option<(&'a [u8], &'a [u8])>
-    ensures { λ r. ⌜ Next words (now (s .entry)) r ⌝ }
+    ensures next { λ r. ⌜ Next words (now (s .entry)) r ⌝ }
+    ensures apart { λ _. ⌜ WordsApart (now (s .entry)) ⌝ }
 {
     let mut left = s;
     'skip: loop {

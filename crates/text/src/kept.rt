@@ -4,7 +4,9 @@ ghost use mathlib.Core.Bool.{true};
 ghost use Rattle.bounded.specs.ArrayVecs.{itemsOf};
 ghost use Rattle.text.specs.Bytes.{name};
 ghost use Rattle.text.specs.Paths.{path};
+
 mod methods;
+
 use bounded::ArrayVec;
 
 // A name, of a host, an account, a group or a domain.

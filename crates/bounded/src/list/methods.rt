@@ -11,7 +11,10 @@ impl<T: Copy, const N: usize> ArrayVec<T, N> {
     pub fn new(blank: T) -> ArrayVec<T, N>
         ensures { λ r. ⌜ itemsOf r ≡ [] ⌝ }
     {
-        ArrayVec { items: [blank; N], len: 0 }
+        ArrayVec {
+            items: [blank; N],
+            len: 0,
+        }
     }
 
     // How many items there are.

@@ -3,12 +3,12 @@ ghost use mathlib.Core.Path.{_≡_};
 ghost use Rattle.std.specs.Options.{mapped};
 ghost use Rattle.std.specs.shelf.Text.{sameBytes};
 ghost use Rattle.text.specs.Kept.{nameBytes, pathBytes, nameIn, pathIn};
+use super::Name;
+use super::Path;
 use crate::names::is_name;
 use crate::names::is_text;
 use crate::paths::is_path;
 use bounded::ArrayVec;
-use super::Name;
-use super::Path;
 
 impl Name {
     // The name that these bytes are, if they are one.

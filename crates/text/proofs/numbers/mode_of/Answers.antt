@@ -1,4 +1,8 @@
 use borrow.Author.Needs.{needs}
+use mathlib.Core.Path.{_≡_}
+use Rattle.std.specs.declared.option.Option.the-variants.{Some}
+use Rattle.text.specs.Bytes.{mode}
+use Rattle.text.proofs.Digits.{mode-value}
 use Rattle.text.proofs.Steps.{written-more, written-no, written-end, grown, octal-small, octal-before}
 use native.Mathlib.Omega.{arith}
 use Prim.Native.Nat.{_<_}
@@ -20,4 +24,6 @@ pub loop-b-again : need.loop-b-again
 loop-b-again c = search (needs, written-more, grown, octal-small)
 
 pub returns : need.returns
-returns c = search (needs, written-end)
+returns c =
+    let value : Some (c .loop-b .n) ≡ mode (c .args .s .now) = search (needs, written-end) in
+    record { value = value; digits = mode-value _ _ value }

@@ -15,9 +15,9 @@ loop-x-holds g c = search (needs, append-nil, take-all, length-take-le)
 
 pub loop-x-again : need.loop-x-again
 loop-x-again g c = elim (c .if-len .came) [
-    then-len w ↦ add-room (g .N) (itemsOf (c .args .self .now)) (c .args .s .now) (itemsOf (c .loop-x .self)) (c .loop-x .x-index) (c .x-item .result) (c .loop-x-test .taken) (c .x-item .is) (c .loop-x .inv) (itemsOf (c .if-len .self)) (search needs) (ap itemsOf (w .self-is) ∙ w .push .ensures)
+  | then-len w ↦ add-room (g .N) (itemsOf (c .args .self .now)) (c .args .s .now) (itemsOf (c .loop-x .self)) (c .loop-x .x-index) (c .x-item .result) (c .loop-x-test .taken) (c .x-item .is) (c .loop-x .inv) (itemsOf (c .if-len .self)) (search needs) (ap itemsOf (w .self-is) ∙ w .push .ensures)
   | else-len w ↦ ap itemsOf (w .self-is) ∙ add-full (g .N) (itemsOf (c .args .self .now)) (c .args .s .now) (itemsOf (c .loop-x .self)) (c .loop-x .x-index) (c .x-item .result) (c .loop-x-test .taken) (c .x-item .is) (c .loop-x .inv) (search needs)
-  ]
+]
 
 pub returns : need.returns
 returns g c = record { is = search (needs, take-all) }

@@ -1,0 +1,5 @@
+pub mod Words
+pub mod Rows
+pub mod Entries
+pub mod Files
+pub mod Laws

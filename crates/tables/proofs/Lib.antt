@@ -1,0 +1,9 @@
+pub mod Scans
+pub mod Forms
+pub mod Pushes
+pub mod Props
+pub mod Counts
+pub mod AccountLaws
+pub mod HostLaws
+pub mod GroupLaws
+pub mod Listed

@@ -1,0 +1,7 @@
+use borrow.Author.Needs.{needs}
+use Rattle.std.proofs.shelf.Ways.{tells}
+use Rattle.text.proofs.Parted.{fields-some}
+use Rattle.tables.proofs.groups.read.entry_of.Needs as need
+
+pub returns-in-Some : need.returns-in-Some
+returns-in-Some c = search (needs, tells, fields-some)

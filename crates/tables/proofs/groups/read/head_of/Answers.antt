@@ -1,0 +1,9 @@
+use borrow.Author.Needs.{needs}
+use Rattle.tables.proofs.Forms.{own-name, number-small}
+use Rattle.tables.proofs.groups.read.head_of.Needs as need
+
+pub returns : need.returns
+returns c = record {
+  value = search needs;
+  formed = record { named = search (needs, own-name); numbered = search (needs, number-small) };
+}

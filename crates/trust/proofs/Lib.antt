@@ -1,0 +1,2 @@
+pub mod TrustLaws
+pub mod DomainLaws

@@ -1,0 +1,4 @@
+pub mod Rows
+pub mod Formed
+pub mod TrustText
+pub mod DomainText
