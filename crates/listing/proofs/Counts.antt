@@ -1,10 +1,10 @@
 -- A listing that is taken lists as many rows as it has entry lines. Assumes nothing.
-use mathlib.Core.Path.{_≡_, refl, sym, ap, subst, _∙_}
+use mathlib.Core.Path.{_≡_, refl, sym, ap, _∙_}
 use mathlib.Core.Bool.{Bool, true, false, cond, not}
 use mathlib.Core.List.{List, [], _∷_, _++_}
-use Prim.Native.Nat.{ℕ, zero, suc, _+_, _≤_, _<_}
+use Prim.Native.Nat.{ℕ, zero, suc, _+_, _<_}
 use native.Mathlib.Omega.{arith}
-use lib.Dec.{leb, ltb}
+use lib.Dec.{ltb}
 use lib.ListN.{length, set}
 use Rattle.std.specs.Options.{isSome}
 use Rattle.std.specs.Vec.{made}
@@ -18,7 +18,6 @@ use Rattle.reading.specs.declared.fault.LineFault.{LineFault}
 use Rattle.reading.specs.declared.fault.Refusal.{Refusal}
 use Rattle.reading.specs.declared.fault.Refusal.the-variants.{Full}
 use Rattle.reading.specs.declared.fault.TextFault.{TextFault}
-use Rattle.reading.specs.Faults.{inText}
 use Rattle.reading.specs.Reads.{needs, andThen, passedOver, readFrom, valueOr}
 use Rattle.listing.specs.Rows.{absent-rows, placeOf, statAt}
 use Rattle.listing.specs.Entries.{Listed, row}

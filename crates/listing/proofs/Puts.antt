@@ -21,7 +21,7 @@ use Rattle.reading.specs.declared.fault.Refusal.the-variants.{Given, Unknown, F
 use Rattle.reading.specs.Faults.{fault}
 use Rattle.reading.specs.Reads.{needs}
 use Rattle.listing.specs.declared.row.FileRow.{FileRow}
-use Rattle.listing.specs.Rows.{fileEntry, pathsOf, placeIn, placeOf, statAt, isDir, hasPath, parentAbove, FixedRows}
+use Rattle.listing.specs.Rows.{fileEntry, pathsOf, placeOf, statAt, isDir, hasPath, FixedRows}
 use Rattle.listing.specs.Files.{isRoot, aboveOf, putStep, Fitting}
 use Rattle.listing.proofs.Places.{place-there, root-first, same-same}
 use Rattle.listing.proofs.Tables.{dir-within, eleven}

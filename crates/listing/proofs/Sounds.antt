@@ -1,12 +1,12 @@
 -- A table of file rows is sound. Assumes nothing.
-use mathlib.Core.Path.{_≡_, refl, sym, ap, subst, _∙_}
+use mathlib.Core.Path.{_≡_, refl, sym, ap, _∙_}
 use mathlib.Core.Logic.{⊎-elim}
 use mathlib.Core.Bool.{Bool, true, not, _||_}
 use mathlib.Core.List.{List, [], _∷_, map}
-use Prim.Native.Nat.{ℕ, zero, suc, _≤_, _<_}
+use Prim.Native.Nat.{ℕ, zero, suc, _≤_}
 use native.Mathlib.Omega.{arith}
 use lib.Dec.{eqb}
-use lib.ListN.{length, take}
+use lib.ListN.{length}
 use Rattle.std.specs.Finite.{nth}
 use Rattle.std.specs.Of.Vec.{vec-items}
 use Rattle.std.specs.Options.{mapped, isSome}
@@ -19,7 +19,7 @@ use Rattle.region.specs.Tables.{FileEntry, Stat}
 use Rattle.region.specs.Sound.{Entry, Above, FilesSound}
 use Rattle.listing.specs.declared.files.Files.{Files}
 use Rattle.listing.specs.declared.row.FileRow.{FileRow}
-use Rattle.listing.specs.Rows.{fileEntry, pathsOf, statAt, statIn, isDir}
+use Rattle.listing.specs.Rows.{fileEntry, statAt, statIn, isDir}
 use Rattle.listing.specs.Files.{filesOf}
 use Rattle.listing.specs.Laws.{DirsAbove}
 use Rattle.listing.proofs.Nths.{some-same, none-some, nth-map}

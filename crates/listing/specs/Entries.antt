@@ -8,7 +8,7 @@ use Rattle.std.specs.shelf.Text.{sameBytes}
 use Rattle.std.specs.declared.option.Option.{Option}
 use Rattle.std.specs.declared.option.Option.the-variants.{Some, None}
 use Rattle.std.specs.declared.result.Result.{Result}
-use Rattle.std.specs.declared.result.Result.the-variants.{Ok, Err}
+use Rattle.std.specs.declared.result.Result.the-variants.{Ok}
 use Rattle.text.specs.Bytes.{andThen, number, mode}
 use Rattle.text.specs.Kept.{pathBytes, pathIn}
 use Rattle.region.specs.Tables.{Stat}

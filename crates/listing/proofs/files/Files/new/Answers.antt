@@ -1,8 +1,6 @@
 use mathlib.Core.Path.{sym, subst}
 use mathlib.Core.List.{map}
 use Prim.Native.Nat.{_≤_}
-use native.Mathlib.Omega.{arith}
-use lib.ListN.{length}
 use Rattle.std.specs.Of.Vec.{vec-items, vec-len}
 use Rattle.listing.specs.Rows.{fileEntry}
 use Rattle.listing.proofs.Tables.{Kept, absent-kept, absent-few}

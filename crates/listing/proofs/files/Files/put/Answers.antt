@@ -1,4 +1,4 @@
-use mathlib.Core.Path.{_≡_, sym, subst, _∙_}
+use mathlib.Core.Path.{_≡_, sym, subst}
 use mathlib.Core.List.{[], _∷_, _++_, map}
 use Prim.Native.Nat.{_≤_, _<_}
 use borrow.Author.Needs.{needs}

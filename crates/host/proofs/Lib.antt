@@ -1,0 +1,5 @@
+pub mod Joined
+pub mod Fills
+pub mod RhostsReads
+pub mod Scans
+pub mod Sounds

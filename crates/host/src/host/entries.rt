@@ -1,0 +1,112 @@
+// What the tables of a host hold, entry by entry.
+ghost use mathlib.Core.Path.{_≡_};
+ghost use mathlib.Core.Bool.{false};
+ghost use mathlib.Core.List.{map, []};
+ghost use Prim.Native.Nat.{_≤_};
+ghost use lib.ListN.{length, getD};
+ghost use Rattle.std.specs.Finite.{nth};
+ghost use Rattle.std.specs.Options.{mapped};
+ghost use Rattle.tables.specs.Rows.{accountEntry, groupEntry};
+ghost use Rattle.listing.specs.Rows.{fileEntry};
+ghost use Rattle.trust.specs.Rows.{trustEntry};
+ghost use Rattle.trust.specs.DomainText.{domainOf};
+ghost use Rattle.allows.specs.Trust.{rhosts-of};
+ghost use Rattle.host.specs.Tables.{hostTables};
+use crate::items::item;
+use listing::FileRow;
+use super::Host;
+use tables::Account;
+use tables::Group;
+use trust::Domain;
+use trust::TrustLine;
+
+impl Host {
+    pub fn name(&self) -> &[u8]
+        ensures { λ r. ⌜ now r ≡ hostTables (now (self .entry)) .name ⌝ }
+    {
+        self.name.as_slice()
+    }
+
+    pub fn accounts(&self) -> &[Account]
+        ensures { λ r. ⌜ map accountEntry (now r) ≡ hostTables (now (self .entry)) .accounts ⌝ }
+    {
+        self.accounts.as_slice()
+    }
+
+    pub fn groups(&self) -> &[Group]
+        ensures { λ r. ⌜ map groupEntry (now r) ≡ hostTables (now (self .entry)) .groups ⌝ }
+    {
+        self.groups.as_slice()
+    }
+
+    pub fn files(&self) -> &[FileRow]
+        ensures { λ r. ⌜ map fileEntry (now r) ≡ hostTables (now (self .entry)) .files ⌝ }
+    {
+        self.files.as_slice()
+    }
+
+    pub fn account(&self, i: usize) -> Option<&Account>
+        ensures { λ r. ⌜ mapped (λ a. accountEntry (now a)) r ≡ nth (hostTables (now (self .entry)) .accounts) i ⌝ }
+    {
+        item(self.accounts(), i)
+    }
+
+    pub fn group(&self, j: usize) -> Option<&Group>
+        ensures { λ r. ⌜ mapped (λ g. groupEntry (now g)) r ≡ nth (hostTables (now (self .entry)) .groups) j ⌝ }
+    {
+        item(self.groups(), j)
+    }
+
+    pub fn file(&self, row: usize) -> Option<&FileRow>
+        ensures { λ r. ⌜ mapped (λ x. fileEntry (now x)) r ≡ nth (hostTables (now (self .entry)) .files) row ⌝ }
+    {
+        item(self.files(), row)
+    }
+
+    pub fn account_count(&self) -> usize
+        ensures value { λ r. ⌜ r ≡ length (hostTables (now (self .entry)) .accounts) ⌝ }
+        ensures bound { λ r. ⌜ r ≤ 16 ⌝ }
+    {
+        self.accounts().len()
+    }
+
+    pub fn group_count(&self) -> usize
+        ensures value { λ r. ⌜ r ≡ length (hostTables (now (self .entry)) .groups) ⌝ }
+        ensures bound { λ r. ⌜ r ≤ 16 ⌝ }
+    {
+        self.groups().len()
+    }
+
+    pub fn file_count(&self) -> usize
+        ensures value { λ r. ⌜ r ≡ length (hostTables (now (self .entry)) .files) ⌝ }
+        ensures bound { λ r. ⌜ r ≤ 64 ⌝ }
+    {
+        self.files().len()
+    }
+
+    pub fn equiv(&self) -> &[TrustLine]
+        ensures { λ r. ⌜ map trustEntry (now r) ≡ hostTables (now (self .entry)) .equiv ⌝ }
+    {
+        self.equiv.as_slice()
+    }
+
+    // The lines of the .rhosts of an account.
+    pub fn rhosts(&self, account: usize) -> &[TrustLine]
+        ensures { λ r. ⌜ map trustEntry (now r) ≡ rhosts-of (hostTables (now (self .entry))) account ⌝ }
+    {
+        if account < self.rhosts.len() { self.rhosts[account].lines() } else { &[] }
+    }
+
+    // Whether the .rhosts of an account has been read.
+    pub fn has_rhosts(&self, account: usize) -> bool
+        ensures { λ r. ⌜ r ≡ getD (hostTables (now (self .entry)) .rhosts-read) account false ⌝ }
+    {
+        account < self.rhosts.len() && self.rhosts[account].read
+    }
+
+    pub fn domain(&self) -> Option<Domain>
+        ensures { λ r. ⌜ domainOf r ≡ hostTables (now (self .entry)) .domain ⌝ }
+    {
+        self.domain
+    }
+}

@@ -1,0 +1,4 @@
+pub mod Edits
+pub mod Begun
+pub mod Checking
+pub mod Sounds

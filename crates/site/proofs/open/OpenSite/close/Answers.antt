@@ -1,0 +1,8 @@
+use mathlib.Core.Path.{refl}
+use Rattle.std.specs.Of.Vec.{vec-items}
+use Rattle.allows.proofs.ExactLaw.{allowed-exactly}
+use Rattle.site.proofs.Sounds.{site-sound}
+use Rattle.site.proofs.open.OpenSite.close.Needs as need
+
+pub returns : need.returns
+returns c = let s = c .args .self in record { same = refl; exact = allowed-exactly _ (site-sound (vec-items (s .hosts)) (s .count) (s .names) (s .within) (s .named)) }
