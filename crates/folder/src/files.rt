@@ -31,7 +31,12 @@ fn accounts_of(site: &OpenSite, host: u8) -> usize {
     }
 }
 
-fn read_rhosts(rt: &LibcRuntime, folder: &str, site: &mut OpenSite, host: u8) -> Result<(), Stopped> {
+fn read_rhosts(
+    rt: &LibcRuntime,
+    folder: &str,
+    site: &mut OpenSite,
+    host: u8,
+) -> Result<(), Stopped> {
     for account in 0..16u8 {
         if account as usize >= accounts_of(site, host) {
             break;

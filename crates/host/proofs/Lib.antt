@@ -1,5 +1,4 @@
-pub mod Joined
 pub mod Fills
-pub mod RhostsReads
 pub mod Scans
+pub mod RhostsReads
 pub mod Sounds

@@ -1,6 +1,6 @@
 -- Looking through a table, one entry on and at the end. Assumes nothing.
 use mathlib.Core.Path.{_≡_, refl, sym, ap, _∙_}
-use mathlib.Core.Bool.{Bool, true, false, _||_}
+use mathlib.Core.Bool.{true, false, _||_}
 use mathlib.Core.List.{List, [], _∷_, map}
 use Prim.Native.Nat.{ℕ, zero, suc, _+_, _≤_, _<_}
 use native.Mathlib.Omega.{arith}
@@ -10,7 +10,6 @@ use Rattle.std.specs.Options.{mapped}
 use Rattle.std.specs.declared.option.Option.{Option}
 use Rattle.std.specs.declared.option.Option.the-variants.{Some, None}
 use Rattle.std.proofs.shelf.Lists.{drop-more, drop-all, getD-map}
-use Rattle.region.specs.Places.{placeFrom}
 use Rattle.region.specs.Tables.{AccountEntry, HostTables}
 use Rattle.host.specs.Wanted.{wants-rhosts-of, wants-rhosts}
 
@@ -35,16 +34,6 @@ module _ {X Y : Type 0} (view : X → Y) where
   past-entries [] i d le = refl
   past-entries (x ∷ xs) zero d le = absurd (omega arith)
   past-entries (x ∷ xs) (suc i) d le = past-entries xs i d (omega arith)
-
-  module _ (p : Y → Bool) (xs : List X) (i : ℕ) where
-    pub place-here : (x : X) → i < length xs → x ≡ getD xs i x → p (view x) ≡ true → placeFrom p i (map view (drop i xs)) ≡ Some i
-    place-here x h e k = rw (drop-more xs i x h, ← e, k)
-
-    pub place-later : (x : X) → i < length xs → x ≡ getD xs i x → p (view x) ≡ false → placeFrom p i (map view (drop i xs)) ≡ placeFrom p (i + 1) (map view (drop (i + 1) xs))
-    place-later x h e k = rw (drop-more xs i x h, ← e, k)
-
-    pub place-nowhere : length xs ≤ i → placeFrom p i (map view (drop i xs)) ≡ None
-    place-nowhere h = rw (drop-all i xs h)
 
 module _ {X : Type 0} (view : X → AccountEntry) (t : HostTables) (xs : List X) (i : ℕ) where
   pub wanted-here : (x : X) → i < length xs → x ≡ getD xs i x → wants-rhosts-of t i (view x) ≡ true → wants-rhosts t i (map view (drop i xs)) ≡ true

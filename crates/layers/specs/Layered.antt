@@ -1,15 +1,15 @@
 -- A source with assumptions or bars keeps the laws of a source.
 use mathlib.Core.Path.{_≡_, refl, sym, ap, _∙_, subst}
-use mathlib.Core.Bool.{Bool, true, false, cond, _&&_}
+use mathlib.Core.Bool.{Bool, true, false, cond}
 use mathlib.Core.List.{List}
 use mathlib.Core.Logic.{_⊎_, inl, inr, ⊎-elim}
-use Prim.Native.Nat.{ℕ, _+_, _-_, min, _≤_, _<_}
+use Prim.Native.Nat.{ℕ, _+_, _-_, _≤_}
 use native.Mathlib.Omega.{arith}
 use lib.Dec.{eqb, ltb}
 use Rattle.std.specs.Finite.{nth}
 use Rattle.std.specs.declared.option.Option.{Option}
 use Rattle.std.specs.declared.option.Option.the-variants.{Some, None}
-use Rattle.std.proofs.shelf.Tests.{le-ltb, cond-true, cond-false, cases-bool, eqb-true, and-parts, and-right}
+use Rattle.std.proofs.shelf.Tests.{le-ltb, cond-false, eqb-true, and-parts, and-right}
 use Rattle.rules.specs.Rules.{Rules, Lawful}
 use Rattle.layers.specs.Layers.{room, granted, member, unless-barred, with-assumed, with-barred}
 

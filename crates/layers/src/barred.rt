@@ -1,5 +1,5 @@
 ghost use mathlib.Core.Path.{_≡_};
-ghost use Prim.Native.Nat.{ℕ, _+_, _<_, _≤_};
+ghost use Prim.Native.Nat.{_+_, _<_, _≤_};
 ghost use Rattle.std.specs.Of.Vec.{vec-len, vec-cap, vec-items};
 ghost use Rattle.layers.specs.Layers.{at-first, is-bar, without, member, with-barred};
 ghost use Rattle.layers.specs.Layered.{barred-lawful};

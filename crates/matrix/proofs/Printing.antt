@@ -2,7 +2,7 @@
 use mathlib.Core.Path.{_≡_, refl, sym, ap, subst, _∙_}
 use mathlib.Core.Bool.{Bool, true, false, cond}
 use mathlib.Core.List.{List, [], _∷_, _++_}
-use Prim.Native.Nat.{ℕ, _+_, _%_, _/_, _≤_, _<_, _^_}
+use Prim.Native.Nat.{ℕ, _+_, _%_, _≤_, _<_, _^_}
 use native.Mathlib.Omega.{arith}
 use lib.Chars.{codes}
 use lib.Dec.{ltb, lit≤}
@@ -11,7 +11,7 @@ use Rattle.std.specs.Written.{decimal}
 use Rattle.std.specs.shelf.Lists.{All}
 use Rattle.std.proofs.shelf.Elements.{all-append}
 use Rattle.std.proofs.shelf.Bits.{mod-below}
-use Rattle.std.proofs.shelf.Tests.{ltb-true, lt-ltb, cond-true, cond-false, cases-bool}
+use Rattle.std.proofs.shelf.Tests.{ltb-true, lt-ltb, cond-true, cond-false}
 use Rattle.std.proofs.shelf.Decimals.{decimal-by-steps, decimal-some, length-decimal-le, same-from-decimal}
 use Rattle.rules.specs.Names.{Printable, WellNamed}
 use Rattle.writing.specs.Wrote.{Wrote}

@@ -1,4 +1,3 @@
-ghost use mathlib.Core.Path.{_≡_};
 ghost use Rattle.matrix.specs.Forms.{operation-form};
 use crate::grants::MatrixSource;
 use crate::table::Matrix;

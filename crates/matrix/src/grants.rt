@@ -1,7 +1,6 @@
 ghost use mathlib.Core.Path.{_≡_};
 ghost use mathlib.Core.Bool.{true, false};
-ghost use Prim.Native.Nat.{ℕ, _+_, _*_, _<_, _≤_};
-ghost use Rattle.std.specs.Of.Vec.{vec-len, vec-items};
+ghost use Prim.Native.Nat.{_+_, _*_, _<_};
 ghost use Rattle.matrix.specs.Grants.{matrix-rules, inside, Made, Read, Put};
 ghost use Rattle.matrix.specs.Lawful.{matrix-lawful};
 use crate::refusal::Refusal;

@@ -1,7 +1,7 @@
 -- Grants, chains of them, what a chain weighs, and what is least.
 -- Chains go by any step relation, step p g r for "p grants g by rule r", so that one definition serves a source's own grants and any other steps over the same privileges.
 use mathlib.Core.Path.{_≡_}
-use mathlib.Core.Bool.{Bool, true, false, not}
+use mathlib.Core.Bool.{Bool, true, not}
 use mathlib.Core.List.{List, [], _∷_}
 use Prim.Native.Nat.{ℕ, _<_}
 use lib.Dec.{eqb}

@@ -1,5 +1,5 @@
 ghost use mathlib.Core.Path.{_≡_};
-ghost use mathlib.Core.Bool.{Bool, true};
+ghost use mathlib.Core.Bool.{Bool};
 ghost use Rattle.rules.specs.Measures.{Measures};
 ghost use Rattle.rules.specs.Weights.{stop, crossed-steps, no-steps, steps-added, steps-at-most, no-crossings, crossings-added, crossings-at-most};
 use crate::weights::Crossings;

@@ -1,13 +1,12 @@
 -- Marks in a list, and how many are settled.
-use mathlib.Core.Path.{_≡_, refl, sym, ap, _∙_}
+use mathlib.Core.Path.{_≡_, refl, ap, _∙_}
 use mathlib.Core.Bool.{Bool, true, false, cond}
-use mathlib.Core.List.{List, [], _∷_, _++_}
-use mathlib.Core.Logic.{_≢_}
+use mathlib.Core.List.{List, [], _∷_}
 use Prim.Native.Nat.{ℕ, zero, suc, _+_, _<_, _≤_}
 use native.Mathlib.Omega.{arith}
 use lib.Dec.{eqb}
-use lib.ListN.{length, getD, set, replicate, drop}
-use Rattle.std.proofs.shelf.Tests.{ne-eqb, eq-eqb}
+use lib.ListN.{length, set}
+use Rattle.std.proofs.shelf.Tests.{ne-eqb}
 use Rattle.search.specs.Labels.{mark}
 use Rattle.search.specs.Trails.{settled}
 

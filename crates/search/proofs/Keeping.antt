@@ -1,24 +1,24 @@
 -- Each step of the search keeps what it should.
 use mathlib.Core.Path.{_≡_, refl, sym, ap, subst, _∙_}
-use mathlib.Core.Bool.{Bool, true, false, cond, not, _||_, _&&_}
+use mathlib.Core.Bool.{Bool, true, false, cond, not, _&&_}
 use mathlib.Core.List.{List, [], _∷_}
-use mathlib.Core.Logic.{_≢_, _⊎_, inl, inr}
-use Prim.Native.Nat.{ℕ, zero, suc, _+_, _<_, _≤_}
+use mathlib.Core.Logic.{_⊎_, inl, inr}
+use Prim.Native.Nat.{ℕ, zero, suc, _<_, _≤_}
 use native.Mathlib.Omega.{arith}
 use lib.Dec.{eqb}
-use lib.ListN.{length, getD, set, length-set, replicate, length-replicate}
+use lib.ListN.{length, set, length-set, replicate, length-replicate}
 use lib.Seq.{getD-set-same, getD-set-other}
 use Rattle.std.specs.declared.option.Option.{Option}
 use Rattle.std.specs.declared.option.Option.the-variants.{Some, None}
-use Rattle.std.proofs.shelf.Tests.{ne-eqb, eq-eqb, cases-eq, cases-lt, both-ways, cases-bool, eqb-true, eqb-false, or-cases, or-parts, and-parts, and-cases, not-true, not-false, true≢false}
+use Rattle.std.proofs.shelf.Tests.{cases-eq, cases-lt, both-ways, eqb-true, eqb-false, or-cases, or-parts, and-parts, and-cases, not-true, not-false}
 use Rattle.rules.specs.Rules.{Rules, Lawful}
 use Rattle.rules.specs.Measures.{Measures}
 use Rattle.rules.specs.Chains.{crosses, GrantsFirst, LeadsBy, weight-from, ChainBy, AllLive, Grants, weight-of}
 use Rattle.rules.specs.declared.weights.Label.{Label}
 use Rattle.search.specs.Labels.{mark, label, State, blank, better, improved, at-slot, relaxed}
-use Rattle.search.specs.Trails.{settled, Hop, Traced, Trail, Kept, All, Before}
+use Rattle.search.specs.Trails.{settled, Traced, Trail, Kept, All, Before}
 use Rattle.search.specs.Questions.{Apart}
-use Rattle.search.proofs.Counting.{within, settled-same, settled-more, settled-most, settled-less}
+use Rattle.search.proofs.Counting.{within, settled-same, settled-more}
 
 abbrev giver : Option (ℕ × ℕ) → ℕ
 giver None = 0

@@ -1,6 +1,6 @@
 -- From the labels to the answer.
 use mathlib.Core.Path.{_≡_, refl, sym, ap, ap₂, subst, _∙_}
-use mathlib.Core.Bool.{Bool, true, false}
+use mathlib.Core.Bool.{Bool, true}
 use mathlib.Core.List.{List, [], _∷_, _++_}
 use Prim.Native.Nat.{ℕ, zero, suc, _<_, _≤_}
 use native.Mathlib.Omega.{arith}
@@ -8,22 +8,22 @@ use lib.ListN.{length, getD, set, replicate, take, drop}
 use lib.Seq.{getD-set-other, length-take-le}
 use Rattle.rules.specs.Rules.{Rules, Lawful}
 use Rattle.rules.specs.Measures.{Measures}
-use Rattle.rules.specs.Chains.{Grants, GrantsFirst, ChainBy, weight-of}
+use Rattle.rules.specs.Chains.{Grants, GrantsFirst, weight-of}
 use Rattle.rules.specs.declared.weights.Label.{Label}
 use Rattle.search.specs.declared.answer.Found.{Found}
 use Rattle.search.specs.Labels.{mark, label, State}
 use Rattle.search.specs.Lists.{overlay}
 use Rattle.search.specs.Trails.{Traced, Kept, All}
 use Rattle.search.specs.Plans.{Follows, rules-of, Fitting, Done, Arrived}
-use mathlib.Core.Logic.{_⊎_, inl, inr}
+use mathlib.Core.Logic.{inl, inr}
 use Rattle.std.proofs.shelf.Tests.{both-ways}
 use Rattle.std.specs.declared.result.Result.{Result}
 use Rattle.std.specs.declared.result.Result.the-variants.{Ok, Err}
 use Rattle.search.specs.declared.answer.Refusal.{Refusal}
 use Rattle.search.specs.declared.answer.Refusal.the-variants.{ShortMemory, BadHeldByte, NotLive, NoChain}
 use Rattle.search.specs.Refusals.{refusal}
-use Rattle.search.specs.Questions.{held-in, Bits, BadByte, AllAlive, SomeDead, Chainless, Apart, Ruled, NoneTwice, NoneHeld, LeastPlan, Planned, Enough, Exactly, PlannedOrLeft, Asked}
-use Rattle.search.specs.Outcomes.{Judged, Answered}
+use Rattle.search.specs.Questions.{Bits, BadByte, AllAlive, SomeDead, Chainless, Apart, Ruled, NoneTwice, NoneHeld, Planned, Enough, Exactly, PlannedOrLeft, Asked}
+use Rattle.search.specs.Outcomes.{Answered}
 use Rattle.search.proofs.Keeping.{start-keeps, ends, traced-weighs, traced-leads, leads-live}
 
 follows-same : {W : Type 0} (z : W) (ls : List (Label W)) (t p : ℕ) (qs rs : List ℕ) → Follows z ls t p qs → Follows z ls t p rs → qs ≡ rs

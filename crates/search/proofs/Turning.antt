@@ -1,22 +1,20 @@
 -- The loops over slots and labels, one turn at a time.
-use mathlib.Core.Path.{_≡_, refl, sym, ap, ap₂, subst, _∙_}
-use mathlib.Core.Bool.{Bool, true, false, cond, not}
-use mathlib.Core.List.{List, [], _∷_}
-use mathlib.Core.Logic.{_≢_, _⊎_, inl, inr}
-use Prim.Native.Nat.{ℕ, zero, suc, _+_, _<_, _≤_}
+use mathlib.Core.Path.{_≡_, sym, ap, ap₂, _∙_}
+use mathlib.Core.Bool.{Bool, true, false, not}
+use mathlib.Core.List.{List}
+use mathlib.Core.Logic.{inl, inr}
+use Prim.Native.Nat.{ℕ, _+_, _<_, _≤_}
 use native.Mathlib.Numerals.{add-one}
 use native.Mathlib.Omega.{arith}
-use lib.Dec.{eqb}
 use lib.ListN.{length, getD}
 use Rattle.std.specs.declared.option.Option.{Option}
 use Rattle.std.specs.declared.option.Option.the-variants.{Some, None}
-use Rattle.std.proofs.shelf.Tests.{cases-eq, both-ways, cases-bool}
+use Rattle.std.proofs.shelf.Tests.{cases-eq, both-ways}
 use Rattle.std.proofs.shelf.Lists.{getD-default}
-use Rattle.rules.specs.Rules.{Rules, Lawful}
+use Rattle.rules.specs.Rules.{Rules}
 use Rattle.rules.specs.Measures.{Measures}
-use Rattle.rules.specs.Chains.{crosses}
 use Rattle.rules.specs.declared.weights.Label.{Label}
-use Rattle.search.specs.Labels.{mark, label, State, blank, better, improved, at-slot, relaxed, Selected}
+use Rattle.search.specs.Labels.{mark, label, State, blank, at-slot, relaxed, Selected}
 
 pub relaxed-next : {W : Type 0} (z : W) (add : W → Bool → W) (atMost : W → W → Bool) (R : Rules) (q : ℕ) (base : W) (k : ℕ) (s₀ s s′ : State W) (o : Option (ℕ × ℕ)) →
     R .slot q k ≡ o → s ≡ relaxed z add atMost R q base k s₀ → s′ ≡ at-slot z add atMost R q base o s → s′ ≡ relaxed z add atMost R q base (k + 1) s₀

@@ -1,15 +1,11 @@
 -- A plan is written one entry at a time.
 use mathlib.Core.Path.{_≡_, refl, sym, ap, ap₂, subst, _∙_}
-use mathlib.Core.Bool.{Bool}
 use mathlib.Core.List.{List, [], _∷_, _++_, append-assoc, append-nil}
-use Prim.Native.Nat.{ℕ, zero, suc, _+_, _<_, _≤_}
-use native.Mathlib.Numerals.{add-one}
+use Prim.Native.Nat.{ℕ, suc, _+_, _<_}
 use native.Mathlib.Omega.{arith}
-use lib.ListN.{length, getD, set, length-append}
-use Rattle.std.proofs.shelf.Lists.{getD-default}
-use Rattle.rules.specs.Rules.{Rules}
+use lib.ListN.{length, set, length-append}
 use Rattle.rules.specs.declared.weights.Label.{Label}
-use Rattle.search.specs.Labels.{label, State, blank, mark}
+use Rattle.search.specs.Labels.{label}
 use Rattle.search.specs.Lists.{overlay}
 use Rattle.search.specs.Plans.{Follows, rules-of, last-of, Fitting, Done, Written}
 

@@ -1,14 +1,14 @@
 -- What the search keeps true.
 use mathlib.Core.Path.{_≡_}
-use mathlib.Core.Bool.{Bool, true, false, not, cond}
+use mathlib.Core.Bool.{Bool, true, cond}
 use mathlib.Core.List.{List, [], _∷_}
 use mathlib.Core.Logic.{_⊎_}
-use Prim.Native.Nat.{ℕ, zero, suc, _+_, _<_, _≤_}
+use Prim.Native.Nat.{ℕ, _+_, _<_, _≤_}
 use lib.Dec.{eqb}
-use lib.ListN.{length, getD, set}
-use Rattle.std.specs.declared.option.Option.the-variants.{Some, None}
+use lib.ListN.{length, getD}
+use Rattle.std.specs.declared.option.Option.the-variants.{Some}
 use Rattle.rules.specs.Rules.{Rules}
-use Rattle.rules.specs.Chains.{Grants, GrantsFirst, crosses, LeadsBy, weight-from, ChainBy}
+use Rattle.rules.specs.Chains.{Grants, GrantsFirst, crosses, LeadsBy, weight-from}
 use Rattle.rules.specs.declared.weights.Label.{Label}
 use Rattle.search.specs.Labels.{mark, label, State}
 use Rattle.search.specs.Questions.{Apart}

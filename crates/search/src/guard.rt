@@ -1,5 +1,4 @@
 ghost use mathlib.Core.Path.{_≡_};
-ghost use Prim.Native.Nat.{ℕ, _<_};
 ghost use lib.ListN.{length, replicate};
 
 // The marks of one question: all zero at its end.

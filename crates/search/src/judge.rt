@@ -1,7 +1,6 @@
-ghost use mathlib.Core.Path.{_≡_};
-ghost use Prim.Native.Nat.{ℕ, _<_, _≤_};
-ghost use lib.ListN.{length, getD};
-ghost use Rattle.search.specs.Outcomes.{LookedAt, Judged};
+ghost use Prim.Native.Nat.{_≤_};
+ghost use lib.ListN.{length};
+ghost use Rattle.search.specs.Outcomes.{Judged};
 use crate::answer::Refusal;
 use rules::source::RuleSource;
 

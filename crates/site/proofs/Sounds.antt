@@ -1,38 +1,20 @@
 -- The hosts of a site are sound. Assumes nothing.
 use mathlib.Core.Path.{_≡_, refl, sym, ap, subst, _∙_}
-use mathlib.Core.Bool.{Bool-set}
 use mathlib.Core.List.{List, [], _∷_, map}
-use mathlib.Core.Logic.{∥∥₁-elim}
 use Prim.Native.Nat.{ℕ, zero, suc, _≤_}
-use native.Mathlib.Bridge.{le-prop}
-use native.Mathlib.Nat.{ℕ-set}
 use native.Mathlib.Omega.{arith}
-use lib.ListN.{length, take, length-take}
+use lib.ListN.{take, length-take}
 use Rattle.std.specs.Finite.{nth}
 use Rattle.std.specs.Options.{mapped}
 use Rattle.std.specs.declared.option.Option.the-variants.{Some, None}
-use Rattle.std.proofs.shelf.Lists.{length-map}
 use Rattle.region.specs.Tables.{HostTables}
 use Rattle.region.specs.Sound.{Entry, OwnName, HostSound, Sound}
 use Rattle.tables.specs.declared.hosts.HostNames.{HostNames}
 use Rattle.tables.specs.HostsText.{hostsOf}
-use Rattle.tables.specs.Rows.{HostNamesSound}
+use Rattle.tables.proofs.HostLaws.{hosts-sound}
 use Rattle.host.specs.declared.host.Host.{Host}
 use Rattle.host.specs.Tables.{hostTables}
 use Rattle.host.proofs.Sounds.{host-sound}
-
--- as many hosts as are counted
-pub first-count : (n : ℕ) (hosts : List Host) → n ≤ length hosts → length (take n (map hostTables hosts)) ≡ n
-first-count n hosts le = simp (length-take, length-map) (omega arith)
-
--- each part of what is known of the names has one proof at most
-names-sound : (t : HostNames) → HostNamesSound (hostsOf t)
-names-sound t = record {
-    few = ∥∥₁-elim (t .sound) le-prop (λ s. s .few);
-    formed = λ i x e. record {
-        formed = ∥∥₁-elim (t .sound) (Bool-set _ _) (λ s. s .formed i x e .formed);
-        free = ∥∥₁-elim (t .sound) (Bool-set _ _) (λ s. s .formed i x e .free) };
-    names = λ i j x y e f same. ∥∥₁-elim (t .sound) (ℕ-set i j) (λ s. s .names i j x y e f same) }
 
 entry-key : {X K : Type 0} (key : X → K) (xs : List X) (i : ℕ) (x : X) → Entry xs i x → Entry (map key xs) i (key x)
 entry-key key [] i x e = ap (mapped key) e
@@ -52,5 +34,5 @@ module _ (hosts : List Host) (count : ℕ) (names : HostNames) (within : count �
   pub site-sound : Sound (take count (map hostTables hosts))
   site-sound = record {
     few = simp length-take (omega arith);
-    hosts = λ i t e. each-first HostSound count hosts i t e (λ h same. subst HostSound same (host-sound h (subst (λ u. OwnName (u .name)) (sym same) (names-sound names .formed i (t .name) (name-at i t e)))));
-    names = λ i j t u e f same. names-sound names .names i j (t .name) (u .name) (name-at i t e) (name-at j u f) same }
+    hosts = λ i t e. each-first HostSound count hosts i t e (λ h same. subst HostSound same (host-sound h (subst (λ u. OwnName (u .name)) (sym same) (hosts-sound names .formed i (t .name) (name-at i t e)))));
+    names = λ i j t u e f same. hosts-sound names .names i j (t .name) (u .name) (name-at i t e) (name-at j u f) same }

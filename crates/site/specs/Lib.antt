@@ -1,2 +1,3 @@
-pub mod Models
 pub mod Checks
+pub mod Models
+pub mod Closing

@@ -6,13 +6,11 @@ ghost use Prim.Native.Nat.{_≤_};
 ghost use lib.ListN.{length};
 ghost use Rattle.std.specs.Results.{Cases, isOk};
 ghost use Rattle.std.specs.declared.result.Result.the-variants.{Err};
-ghost use Rattle.region.specs.Sound.{Sound};
-ghost use Rattle.allows.specs.Allows.{Exact};
 ghost use Rattle.host.specs.Tables.{hostTables};
 ghost use Rattle.site.specs.Models.{openModel, closedModel};
 ghost use Rattle.site.specs.Checks.{missing, checked};
+ghost use Rattle.site.specs.Closing.{Closes};
 use crate::closed::ClosedSite;
-use crate::first::first_hosts;
 use crate::open::OpenSite;
 use host::Host;
 use reading::Kind;
@@ -48,14 +46,13 @@ impl OpenSite {
     pub fn check(&self) -> Result<(), SiteFault>
         ensures { λ r. ⌜ r ≡ checked (openModel (now (self .entry)) .hosts) ⌝ }
     {
-        check_hosts(first_hosts(self.hosts.as_slice(), self.count))
+        check_hosts(self.hosts())
     }
 
     // Closes a site that the check would not refuse.
     pub fn close(self) -> ClosedSite
         requires { ⌜ isOk (checked (openModel self .hosts)) ≡ true ⌝ }
-        ensures same { λ r. ⌜ closedModel r ≡ openModel self ⌝ }
-        ensures exact { λ r. ⌜ Exact (closedModel r .hosts) ⌝ }
+        ensures { λ r. ⌜ Closes (openModel self) (closedModel r) ⌝ }
     {
         ClosedSite { hosts: self.hosts, count: self.count, names: self.names, hosts_read: self.hosts_read }
     }
@@ -72,7 +69,7 @@ impl ClosedSite {
 
 // Closes a site, or gives it back with what the check says.
 pub fn try_close(site: OpenSite) -> Result<ClosedSite, (OpenSite, SiteFault)>
-    ensures { λ r. ⌜ Cases r (λ s. closedModel s ≡ openModel site) (λ e. (openModel (e .0) ≡ openModel site) × (checked (openModel site .hosts) ≡ Err (e .1))) ⌝ }
+    ensures { λ r. ⌜ Cases r (λ s. Closes (openModel site) (closedModel s)) (λ e. (openModel (e .0) ≡ openModel site) × (checked (openModel site .hosts) ≡ Err (e .1))) ⌝ }
 {
     match site.check() {
         Ok(()) => Ok(site.close()),

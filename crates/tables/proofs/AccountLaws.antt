@@ -1,7 +1,7 @@
 -- The accounts that a table holds are sound. Assumes nothing.
 use mathlib.Core.Path.{_≡_, refl}
 use mathlib.Core.Bool.{true, false, not}
-use mathlib.Core.List.{List, [], _∷_, _++_}
+use mathlib.Core.List.{List, [], _∷_, _++_, map}
 use mathlib.Core.Logic.{∥∥₁-elim}
 use Prim.Native.Nat.{ℕ, _+_, _<_, zero-le}
 use lib.ListN.{length}
@@ -16,6 +16,8 @@ use Rattle.reading.specs.declared.fault.Kind.the-variants.{Passwd}
 use Rattle.reading.specs.declared.fault.Refusal.the-variants.{Given}
 use Rattle.region.specs.Tables.{AccountEntry}
 use Rattle.region.specs.Sound.{AccountFormed, AccountsSound}
+use Rattle.tables.specs.declared.accounts.Account.{Account}
+use Rattle.tables.specs.Rows.{accountEntry}
 use Rattle.tables.specs.Steps.{withRow, textTold}
 use Rattle.tables.specs.PasswdText.{accountNamed, accountPlace, accountsOf, accountIn, withAccount, accountStep, accountsIn}
 use Rattle.tables.specs.declared.accounts.Accounts.{Accounts}
@@ -23,8 +25,11 @@ use Rattle.tables.proofs.Counts.{then-ok, needs-ok, row-added, row-longer, cou
 use Rattle.tables.proofs.Props.{accounts-prop}
 use Rattle.tables.proofs.Pushes.{each-none, each-push, distinct-none, distinct-push, no-row, few-push}
 
-pub accounts-none : AccountsSound []
+accounts-none : AccountsSound []
 accounts-none = record { few = zero-le; formed = each-none AccountFormed; names = distinct-none (λ a. a .name) }
+
+pub accounts-empty : (rows : List Account) → rows ≡ [] → ∥ AccountsSound (map accountEntry rows) ∥₁
+accounts-empty rows e = ∣ rw e accounts-none ∣₁
 
 pub accounts-push : (xs : List AccountEntry) (a : AccountEntry) → AccountsSound xs → AccountFormed a → isSome (accountPlace (a .name) xs) ≡ false → length xs < 16 → AccountsSound (xs ++ a ∷ [])
 accounts-push xs a s f u h = record {

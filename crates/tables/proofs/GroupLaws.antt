@@ -1,7 +1,7 @@
 -- The groups that a table holds are sound. Assumes nothing.
 use mathlib.Core.Path.{_≡_, refl, ap, _∙_}
 use mathlib.Core.Bool.{Bool, true, false, cond, not, _||_}
-use mathlib.Core.List.{List, [], _∷_, _++_}
+use mathlib.Core.List.{List, [], _∷_, _++_, map}
 use mathlib.Core.Logic.{∥∥₁-elim}
 use Prim.Native.Nat.{ℕ, _+_, _<_, zero-le}
 use native.Mathlib.Omega.{arith}
@@ -21,6 +21,8 @@ use Rattle.reading.specs.declared.fault.Kind.the-variants.{Group}
 use Rattle.reading.specs.declared.fault.Refusal.the-variants.{Fields, Given}
 use Rattle.region.specs.Tables.{AccountEntry, GroupEntry}
 use Rattle.region.specs.Sound.{Entry, GroupFormed, GroupsSound}
+use Rattle.tables.specs.declared.groups.Group.{Group as Row}
+use Rattle.tables.specs.Rows.{groupEntry}
 use Rattle.tables.specs.Steps.{placeFrom, withRow, textTold}
 use Rattle.tables.specs.GroupText.{GroupFields, groupGiven, groupsOf, groupsRead, fourFields, members, groupHeadIn, listedIn, withGroup, groupStep, groupsIn}
 use Rattle.tables.specs.declared.groups.Groups.{Groups}
@@ -29,8 +31,11 @@ use Rattle.tables.proofs.Counts.{wants-ok, then-ok, needs-ok, row-added, row-l
 use Rattle.tables.proofs.Props.{groups-prop}
 use Rattle.tables.proofs.Pushes.{each-none, each-push, distinct-none, distinct-push, no-row, few-push}
 
-pub groups-none : GroupsSound []
+groups-none : GroupsSound []
 groups-none = record { few = zero-le; formed = each-none GroupFormed; names = distinct-none (λ g. g .name); numbers = distinct-none (λ g. g .number) }
+
+pub groups-empty : (rows : List Row) → rows ≡ [] → ∥ GroupsSound (map groupEntry rows) ∥₁
+groups-empty rows e = ∣ rw e groups-none ∣₁
 
 module _ (xs : List GroupEntry) (g : GroupEntry) (u : isSome (placeFrom (groupGiven (g .name) (g .number)) 0 xs) ≡ false) where
   other : (i : ℕ) (y : GroupEntry) → Entry xs i y → (eqb (y .number) (g .number) ≡ false) × (sameBytes (y .name) (g .name) ≡ false)

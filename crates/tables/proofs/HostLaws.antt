@@ -1,7 +1,7 @@
 -- The names that a table of hosts holds are sound. Assumes nothing.
 use mathlib.Core.Path.{_≡_, refl}
 use mathlib.Core.Bool.{Bool, true, false, cond, not}
-use mathlib.Core.List.{List, [], _∷_, _++_}
+use mathlib.Core.List.{List, [], _∷_, _++_, map}
 use mathlib.Core.Logic.{∥∥₁-elim}
 use Prim.Native.Nat.{ℕ, _+_, _<_, zero-le}
 use native.Mathlib.Omega.{arith}
@@ -16,6 +16,8 @@ use Rattle.reading.specs.Reads.{andThen, valueOr, passedOver}
 use Rattle.reading.specs.declared.fault.Kind.the-variants.{Hosts}
 use Rattle.reading.specs.declared.fault.Refusal.the-variants.{Given}
 use Rattle.region.specs.Sound.{OwnName}
+use Rattle.text.specs.declared.kept.Name.{Name}
+use Rattle.text.specs.Kept.{nameBytes}
 use Rattle.tables.specs.Steps.{withRow, textTold, givesEntry, entryLines}
 use Rattle.tables.specs.Rows.{HostNamesSound}
 use Rattle.tables.specs.HostsText.{hostNamed, hostPlace, hostsOf, hostIn, withHost, hostStep, hostsIn}
@@ -24,8 +26,11 @@ use Rattle.tables.proofs.Counts.{then-ok, needs-ok, row-added, row-longer, cou
 use Rattle.tables.proofs.Props.{hosts-prop}
 use Rattle.tables.proofs.Pushes.{each-none, each-push, distinct-none, distinct-push, no-row, few-push}
 
-pub hosts-none : HostNamesSound []
+hosts-none : HostNamesSound []
 hosts-none = record { few = zero-le; formed = each-none OwnName; names = distinct-none (λ n. n) }
+
+pub hosts-empty : (rows : List Name) → rows ≡ [] → ∥ HostNamesSound (map nameBytes rows) ∥₁
+hosts-empty rows e = ∣ rw e hosts-none ∣₁
 
 pub hosts-push : (xs : List (List ℕ)) (h : List ℕ) → HostNamesSound xs → OwnName h → isSome (hostPlace h xs) ≡ false → length xs < 8 → HostNamesSound (xs ++ h ∷ [])
 hosts-push xs h s f u k = record {

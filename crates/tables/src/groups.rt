@@ -6,6 +6,7 @@ ghost use Rattle.region.specs.Sound.{GroupsSound};
 ghost use Rattle.tables.specs.Rows.{groupEntry};
 
 mod members;
+mod methods;
 pub mod read;
 
 use crate::accounts::Accounts;

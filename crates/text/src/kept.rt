@@ -5,7 +5,8 @@ ghost use Rattle.bounded.specs.ArrayVecs.{itemsOf};
 ghost use Rattle.text.specs.Bytes.{name};
 ghost use Rattle.text.specs.Paths.{path};
 
-mod methods;
+mod of_name;
+mod of_path;
 
 use bounded::ArrayVec;
 

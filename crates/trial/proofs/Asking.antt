@@ -3,7 +3,7 @@ use mathlib.Core.Path.{_≡_, refl, ap, _∙_}
 use mathlib.Core.Bool.{Bool}
 use mathlib.Core.List.{List, [], _∷_}
 use mathlib.Core.Logic.{⊎-elim}
-use Prim.Native.Nat.{ℕ, suc, _+_, _<_, _≤_}
+use Prim.Native.Nat.{ℕ, suc, _+_, _≤_}
 use native.Mathlib.Omega.{arith}
 use lib.ListN.{length, take}
 use Rattle.std.proofs.shelf.Tests.{cases-lt}
@@ -13,7 +13,7 @@ use Rattle.std.specs.declared.result.Result.the-variants.{Ok, Err}
 use Rattle.rules.specs.Rules.{Rules}
 use Rattle.rules.specs.declared.weights.Label.{Label}
 use Rattle.search.specs.Lists.{overlay}
-use Rattle.search.specs.Questions.{Ruled, Enough, Exactly, Asked}
+use Rattle.search.specs.Questions.{Ruled, Enough, Asked}
 use Rattle.search.specs.Refusals.{refusal}
 use Rattle.search.specs.declared.answer.Found.{Found}
 use Rattle.search.specs.declared.answer.Refusal.{Refusal as Unanswered}

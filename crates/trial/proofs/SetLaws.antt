@@ -1,12 +1,11 @@
 -- What a push and a removal do to a set.
 use mathlib.Core.Path.{_≡_, refl, sym, ap, _∙_, subst}
-use mathlib.Core.Bool.{Bool, true, false, cond, _&&_, _||_, not}
+use mathlib.Core.Bool.{Bool, true, false, _&&_, _||_, not}
 use mathlib.Core.List.{List, [], _∷_, _++_}
-use mathlib.Core.Logic.{_⊎_, inl, inr, ⊎-elim}
-use Prim.Native.Nat.{ℕ}
+use mathlib.Core.Logic.{⊎-elim}
 use lib.Dec.{eqb}
-use Rattle.std.proofs.shelf.Tests.{cases-bool, both-ways, and-parts, and-from, or-cases, or-parts, or-left, or-right, or-from, not-true, not-from-false, eq-eqb, eqb-true, cond-true, cond-false, cond-both}
-use Rattle.layers.specs.Layers.{some, without}
+use Rattle.std.proofs.shelf.Tests.{cases-bool, both-ways, and-parts, and-from, or-parts, or-from, not-true, not-from-false, eq-eqb, eqb-true, cond-true, cond-false, cond-both}
+use Rattle.layers.specs.Layers.{without}
 use Rattle.trial.specs.Sets.{has, apart, Tells, same-pair}
 
 pub eqb-tells-all : Tells eqb

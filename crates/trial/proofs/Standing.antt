@@ -2,20 +2,19 @@
 use mathlib.Core.Path.{_≡_, refl, sym, ap, ap₂, _∙_, subst}
 use mathlib.Core.Bool.{Bool, true, false, cond, _&&_, _||_, not}
 use mathlib.Core.List.{List, [], _∷_, _++_}
-use mathlib.Core.Logic.{_⊎_, inl, inr, ⊎-elim}
-use Prim.Native.Nat.{ℕ, suc, _+_, _-_, _≤_, _<_}
+use Prim.Native.Nat.{ℕ, suc, _+_, _<_}
 use native.Mathlib.Omega.{arith}
 use lib.Dec.{eqb, ltb}
 use lib.ListN.{length, length-append}
 use Rattle.std.specs.Results.{isOk}
-use Rattle.std.proofs.shelf.Tests.{cond-both, cond-true, cond-false, and-parts, and-from, both-ways, ltb-true}
+use Rattle.std.proofs.shelf.Tests.{cond-both, and-parts, and-from, both-ways, ltb-true}
 use Rattle.rules.specs.Rules.{Rules}
 use Rattle.layers.specs.Layers.{some, without, is-pair, is-bar, room}
-use Rattle.trial.specs.Sets.{Members, joined, parted, has, apart, Tells, Lists, same-pair}
+use Rattle.trial.specs.Sets.{Members, joined, parted, has, Tells, Lists, same-pair}
 use Rattle.std.specs.declared.result.Result.the-variants.{Ok, Err}
 use Rattle.layers.specs.Answers.{Answer, numbered, adding, taking}
-use Rattle.trial.specs.Ledger.{Ledger, empty, adds, takes, verdict, entered, next}
-use Rattle.trial.specs.Tables.{Tables, bare-tables, list-verdict, list-entered, list-next, alive, Stands, Carries}
+use Rattle.trial.specs.Ledger.{Ledger, adds, takes, verdict, entered, next}
+use Rattle.trial.specs.Tables.{Tables, list-verdict, list-entered, list-next, alive, Stands, Carries}
 use Rattle.trial.specs.declared.calls.Change.{Change}
 use Rattle.trial.specs.declared.calls.Change.the-variants.{Assume, Withdraw, Bar, Lift}
 use Rattle.trial.proofs.SetLaws.{eqb-tells-all, pair-tells, has-push, has-without, apart-push, apart-without}
@@ -79,14 +78,6 @@ module _ {X : Type 0} (e : X → X → Bool) (tells : Tells e) (x : X) (xs : Lis
     same-members = λ y. ap (λ b. b && not (e x y)) (is .same-members y) ∙ sym (has-without e tells y x xs (is .none-twice));
     as-many = omega (arith, is .as-many, fewer (λ y. e y x) xs there);
   }
-
-pub stands-bare : (R : Rules) → Stands R bare-tables empty
-stands-bare R = record {
-  pairs = record { none-twice = refl; same-members = λ x. refl; as-many = refl };
-  bars = record { none-twice = refl; same-members = λ x. refl; as-many = refl };
-  within-room = omega arith;
-  all-live = refl;
-}
 
 module _ (R : Rules) (T : Tables) (l : Ledger) (st : Stands R T l) where
   same-verdict : (c : Change) → numbered (list-verdict R T c) ≡ verdict R l c

@@ -1,20 +1,20 @@
 -- The steps of a source under the lists of a trial are those of the ledger.
-use mathlib.Core.Path.{_≡_, refl, sym, ap, _∙_, subst}
-use mathlib.Core.Bool.{Bool, true, false, cond, _&&_, _||_}
-use mathlib.Core.List.{List, [], _∷_, _++_}
+use mathlib.Core.Path.{_≡_, refl, sym, ap, _∙_}
+use mathlib.Core.Bool.{Bool, true, false, cond}
+use mathlib.Core.List.{List, [], _∷_}
 use mathlib.Core.Logic.{_⊎_, inl, inr, ⊎-elim}
-use Prim.Native.Nat.{ℕ, zero, suc, _+_, _-_, min, _≤_, _<_}
+use Prim.Native.Nat.{ℕ, zero, suc, _+_, _-_, _≤_, _<_}
 use native.Mathlib.Omega.{arith}
-use lib.Dec.{eqb, ltb}
-use lib.ListN.{length, getD, take, length-append}
+use lib.Dec.{ltb}
+use lib.ListN.{length}
 use Rattle.std.specs.Finite.{nth}
 use Rattle.std.specs.declared.option.Option.{Option}
 use Rattle.std.specs.declared.option.Option.the-variants.{Some, None}
-use Rattle.std.proofs.shelf.Tests.{lt-ltb, le-ltb, ltb-true, ltb-false, cond-true, cond-false, cond-both, cases-bool, cases-lt, eqb-true, eq-eqb, and-parts, and-from, or-cases, both-ways}
+use Rattle.std.proofs.shelf.Tests.{lt-ltb, le-ltb, ltb-false, cond-true, cond-false, cases-lt, eqb-true, eq-eqb, and-parts, and-from, or-cases, both-ways}
 use Rattle.std.proofs.shelf.Ways.{tells}
 use Rattle.rules.specs.Rules.{Rules, Lawful}
 use Rattle.rules.specs.Chains.{Grants, GrantsFirst}
-use Rattle.layers.specs.Layers.{granted, room, some, without, is-pair, is-bar, member, unless-barred, with-assumed, with-barred}
+use Rattle.layers.specs.Layers.{granted, room, some, is-pair, member, unless-barred, with-assumed}
 use Rattle.layers.specs.Layered.{none-some, cond-some, unless-is, granted-is}
 use Rattle.trial.specs.Ledger.{Ledger, LedgerGrants, LedgerRule}
 use Rattle.trial.specs.Tables.{Tables, alive, Stands, with-tables}

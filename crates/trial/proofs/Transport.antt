@@ -1,6 +1,6 @@
 -- An answer over the source under the lists is an answer by the ledger.
-use mathlib.Core.Path.{_≡_, refl, sym, ap, _∙_, subst}
-use mathlib.Core.Bool.{Bool, true, false}
+use mathlib.Core.Path.{_≡_, refl, sym, ap, _∙_}
+use mathlib.Core.Bool.{Bool}
 use mathlib.Core.List.{List, [], _∷_}
 use Prim.Native.Nat.{ℕ}
 use Rattle.std.specs.declared.result.Result.{Result}
@@ -10,7 +10,7 @@ use Rattle.rules.specs.Chains.{Grants, GrantsFirst, LeadsBy, AllLive, ChainBy, 
 use Rattle.rules.specs.declared.weights.Label.{Label}
 use Rattle.search.specs.declared.answer.Found.{Found}
 use Rattle.search.specs.declared.answer.Refusal.{Refusal}
-use Rattle.search.specs.Questions.{held-in, Chainless, Ruled, LeastPlan, Planned, PlannedOrLeft, Asked}
+use Rattle.search.specs.Questions.{held-in, Ruled, LeastPlan, PlannedOrLeft, Asked}
 use Rattle.trial.specs.Ledger.{Ledger, LedgerGrants, LedgerRule}
 use Rattle.trial.specs.Tables.{Tables, Stands, with-tables}
 use Rattle.trial.proofs.Steps.{step-to, step-from, rule-to}

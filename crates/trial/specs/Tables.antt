@@ -19,9 +19,6 @@ pub record Tables : Type 0 where
   pub assumed : List (ℕ × ℕ)
   pub barred : List ℕ
 
-abbrev pub bare-tables : Tables
-bare-tables = record { assumed = []; barred = [] }
-
 -- what a change is answered by the lists
 abbrev pub list-verdict : Rules → Tables → Change → Answer
 list-verdict R T (Assume p g) = assume-answer R (T .assumed) p g

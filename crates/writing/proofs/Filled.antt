@@ -1,12 +1,12 @@
 -- Digits counted, and put from the end.
-use mathlib.Core.Path.{_≡_, refl, sym, ap, _∙_}
+use mathlib.Core.Path.{_≡_, sym, ap, _∙_}
 use mathlib.Core.List.{List, [], _∷_, _++_, append-assoc}
-use Prim.Native.Nat.{ℕ, suc, _+_, _-_, _/_, _%_, _^_, _≤_, _<_}
+use Prim.Native.Nat.{ℕ, _+_, _/_, _%_, _^_, _≤_, _<_}
 use native.Mathlib.Omega.{arith}
 use lib.ListN.{length, take, drop, set}
 use Rattle.std.specs.Written.{decimal}
-use Rattle.std.proofs.shelf.Lists.{length-push, drop-set, take-take, take-set, take-set-le, take-append-drop}
-use Rattle.std.proofs.shelf.Decimals.{decimal-digit, decimal-step, decimal-some, length-decimal-le}
+use Rattle.std.proofs.shelf.Lists.{length-push, drop-set, take-take, take-set, take-append-drop}
+use Rattle.std.proofs.shelf.Decimals.{decimal-digit, decimal-step, length-decimal-le}
 
 pub step-length : (m : ℕ) → 10 ≤ m → m < 2 ^ 32 → length (decimal m) ≡ length (decimal (m / 10)) + 1
 step-length m big h = ap length (decimal-step m big (omega arith)) ∙ length-push (decimal (m / 10)) (48 + m % 10)

@@ -1,6 +1,6 @@
 // Writes numbers and texts into memory that is lent, from a place given. The bytes around stay.
 ghost use mathlib.Core.Path.{_≡_};
-ghost use Prim.Native.Nat.{ℕ, _+_, _≤_, _<_};
+ghost use Prim.Native.Nat.{_+_, _≤_};
 ghost use lib.ListN.{length};
 ghost use Rattle.std.specs.Written.{decimal};
 ghost use Rattle.writing.specs.Wrote.{Wrote};

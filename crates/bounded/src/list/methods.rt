@@ -21,7 +21,7 @@ impl<T: Copy, const N: usize> ArrayVec<T, N> {
     pub fn len(&self) -> usize
         ensures { λ r. ⌜ r ≡ length (itemsOf (now (self .entry))) ⌝ }
     {
-        self.len
+        self.as_slice().len()
     }
 
     // The items in their order.

@@ -1,46 +1,51 @@
-// What the tables of a host hold, entry by entry.
+// What the tables of a host hold.
 ghost use mathlib.Core.Path.{_≡_};
 ghost use mathlib.Core.Bool.{false};
-ghost use mathlib.Core.List.{map, []};
+ghost use mathlib.Core.List.{map};
 ghost use Prim.Native.Nat.{_≤_};
 ghost use lib.ListN.{length, getD};
 ghost use Rattle.std.specs.Finite.{nth};
 ghost use Rattle.std.specs.Options.{mapped};
+ghost use Rattle.text.specs.Kept.{nameBytes};
 ghost use Rattle.tables.specs.Rows.{accountEntry, groupEntry};
 ghost use Rattle.listing.specs.Rows.{fileEntry};
 ghost use Rattle.trust.specs.Rows.{trustEntry};
 ghost use Rattle.trust.specs.DomainText.{domainOf};
 ghost use Rattle.allows.specs.Trust.{rhosts-of};
 ghost use Rattle.host.specs.Tables.{hostTables};
-use crate::items::item;
 use listing::FileRow;
+use lookups::at;
 use super::Host;
 use tables::Account;
 use tables::Group;
+use text::Name;
 use trust::Domain;
 use trust::TrustLine;
 
 impl Host {
-    pub fn name(&self) -> &[u8]
-        ensures { λ r. ⌜ now r ≡ hostTables (now (self .entry)) .name ⌝ }
+    pub fn name(&self) -> &Name
+        ensures { λ r. ⌜ nameBytes (now r) ≡ hostTables (now (self .entry)) .name ⌝ }
     {
-        self.name.as_slice()
+        &self.name
     }
 
     pub fn accounts(&self) -> &[Account]
-        ensures { λ r. ⌜ map accountEntry (now r) ≡ hostTables (now (self .entry)) .accounts ⌝ }
+        ensures entries { λ r. ⌜ map accountEntry (now r) ≡ hostTables (now (self .entry)) .accounts ⌝ }
+        ensures few { λ r. ⌜ length (now r) ≤ 16 ⌝ }
     {
         self.accounts.as_slice()
     }
 
     pub fn groups(&self) -> &[Group]
-        ensures { λ r. ⌜ map groupEntry (now r) ≡ hostTables (now (self .entry)) .groups ⌝ }
+        ensures entries { λ r. ⌜ map groupEntry (now r) ≡ hostTables (now (self .entry)) .groups ⌝ }
+        ensures few { λ r. ⌜ length (now r) ≤ 16 ⌝ }
     {
         self.groups.as_slice()
     }
 
     pub fn files(&self) -> &[FileRow]
-        ensures { λ r. ⌜ map fileEntry (now r) ≡ hostTables (now (self .entry)) .files ⌝ }
+        ensures entries { λ r. ⌜ map fileEntry (now r) ≡ hostTables (now (self .entry)) .files ⌝ }
+        ensures few { λ r. ⌜ length (now r) ≤ 64 ⌝ }
     {
         self.files.as_slice()
     }
@@ -48,19 +53,19 @@ impl Host {
     pub fn account(&self, i: usize) -> Option<&Account>
         ensures { λ r. ⌜ mapped (λ a. accountEntry (now a)) r ≡ nth (hostTables (now (self .entry)) .accounts) i ⌝ }
     {
-        item(self.accounts(), i)
+        at(self.accounts(), i)
     }
 
     pub fn group(&self, j: usize) -> Option<&Group>
         ensures { λ r. ⌜ mapped (λ g. groupEntry (now g)) r ≡ nth (hostTables (now (self .entry)) .groups) j ⌝ }
     {
-        item(self.groups(), j)
+        at(self.groups(), j)
     }
 
     pub fn file(&self, row: usize) -> Option<&FileRow>
         ensures { λ r. ⌜ mapped (λ x. fileEntry (now x)) r ≡ nth (hostTables (now (self .entry)) .files) row ⌝ }
     {
-        item(self.files(), row)
+        at(self.files(), row)
     }
 
     pub fn account_count(&self) -> usize
@@ -84,6 +89,7 @@ impl Host {
         self.files().len()
     }
 
+    // The lines of hosts.equiv.
     pub fn equiv(&self) -> &[TrustLine]
         ensures { λ r. ⌜ map trustEntry (now r) ≡ hostTables (now (self .entry)) .equiv ⌝ }
     {
@@ -98,7 +104,7 @@ impl Host {
     }
 
     // Whether the .rhosts of an account has been read.
-    pub fn has_rhosts(&self, account: usize) -> bool
+    pub(crate) fn has_rhosts(&self, account: usize) -> bool
         ensures { λ r. ⌜ r ≡ getD (hostTables (now (self .entry)) .rhosts-read) account false ⌝ }
     {
         account < self.rhosts.len() && self.rhosts[account].read

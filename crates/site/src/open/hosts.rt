@@ -52,13 +52,6 @@ fn begin_hosts(hosts: &mut Vec<Host>, names: &[Name])
 }
 
 impl OpenSite {
-    // The hosts that the hosts text names, by their numbers.
-    pub fn hosts(&self) -> &[Host]
-        ensures { λ r. ⌜ map hostTables (now r) ≡ openModel (now (self .entry)) .hosts ⌝ }
-    {
-        first_hosts(self.hosts.as_slice(), self.count)
-    }
-
     // A site with room for all that its texts may say, none of which has been read.
     pub fn new(heap: Global) -> Result<OpenSite, AllocError>
         ensures { λ r. ⌜ made r (λ s. openModel s ≡ unread-site) ⌝ }
@@ -66,6 +59,14 @@ impl OpenSite {
         let names = HostNames::new(heap)?;
         let hosts = spare_hosts(heap)?;
         Ok(OpenSite { hosts, count: 0, names, hosts_read: false })
+    }
+
+    // The hosts, by the numbers that the hosts text gives them.
+    pub fn hosts(&self) -> &[Host]
+        ensures entries { λ r. ⌜ map hostTables (now r) ≡ openModel (now (self .entry)) .hosts ⌝ }
+        ensures few { λ r. ⌜ length (now r) ≤ 8 ⌝ }
+    {
+        first_hosts(self.hosts.as_slice(), self.count)
     }
 
     fn name_hosts(&mut self, text: &[u8]) -> Result<(), TextFault>

@@ -33,8 +33,6 @@ use reading::TextFault;
 use reading::TextFaultFromLine;
 use reading::at;
 use reading::read_text;
-use std::alloc::AllocError;
-use std::alloc::Global;
 use std::mem::replace;
 use text::Mark;
 use text::Name;
@@ -114,30 +112,6 @@ fn is_given(rows: &[Group], name: &[u8], number: u32) -> bool
         }
     }
     false
-}
-
-impl Groups {
-    // An empty table with room for 16 groups.
-    pub fn new(heap: Global) -> Result<Groups, AllocError>
-        ensures { λ r. ⌜ made r (λ t. groupsOf t ≡ []) ⌝ }
-    {
-        let rows = Vec::with_capacity(heap, 16)?;
-        Ok(Groups { rows })
-    }
-
-    // The groups in the order of their lines.
-    pub fn as_slice(&self) -> &[Group]
-        ensures { λ r. ⌜ map groupEntry (now r) ≡ groupsOf (now (self .entry)) ⌝ }
-    {
-        self.rows.as_slice()
-    }
-
-    // Makes the table empty.
-    pub fn clear(&mut self)
-        ensures { λ _. ⌜ groupsOf (now (self .exit)) ≡ [] ⌝ }
-    {
-        self.rows.clear();
-    }
 }
 
 impl<'a> Table for Reading<'a> as ReadingTable {

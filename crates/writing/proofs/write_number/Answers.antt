@@ -4,9 +4,9 @@ use mathlib.Core.Path.{_≡_, refl, ap, _∙_}
 use mathlib.Core.List.{_++_}
 use lib.ListN.{length, take, drop}
 use Rattle.std.specs.Written.{decimal}
-use Prim.Native.Nat.{_+_, _-_, _%_, _≤_, _<_, _^_}
+use Prim.Native.Nat.{_+_, _-_, _%_, _≤_}
 use Rattle.std.proofs.shelf.Decimals.{decimal-some}
-use Rattle.writing.proofs.Filled.{short, step-length, one-length, front, back, whole}
+use Rattle.writing.proofs.Filled.{step-length, one-length, front, back, whole}
 use Rattle.writing.proofs.write_number.Needs as need
 
 pub sub-i : need.sub-i

@@ -1,6 +1,5 @@
 use borrow.Author.Needs.{needs}
 use Rattle.std.proofs.shelf.Lists.{drop-drop}
-use Rattle.writing.proofs.Chained.{then}
 use Rattle.writing.proofs.write_text.Needs as need
 
 pub returns : need.returns

@@ -1,4 +1,4 @@
-use mathlib.Core.Path.{_≡_, sym, _∙_}
+use mathlib.Core.Path.{sym, _∙_}
 use native.Mathlib.Omega.{arith}
 use Rattle.layers.specs.Layers.{is-pair}
 use Rattle.layers.proofs.Finds.{first-more, first-here, first-none}

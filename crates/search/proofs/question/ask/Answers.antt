@@ -1,7 +1,7 @@
 use mathlib.Core.Path.{_≡_, refl, ap}
 use mathlib.Core.List.{_++_}
 use Prim.Native.Nat.{_-_}
-use lib.ListN.{length, take, drop}
+use lib.ListN.{take, drop}
 use native.Mathlib.Omega.{arith}
 use Rattle.search.proofs.Replying.{put-back, asked-short, asked}
 use Rattle.search.proofs.question.ask.Needs as need

@@ -1,4 +1,4 @@
-use mathlib.Core.Path.{_≡_, sym, _∙_}
+use mathlib.Core.Path.{sym}
 use Rattle.std.proofs.shelf.Tests.{eqb-true, eqb-false}
 use Rattle.search.specs.Questions.{held-in}
 use Rattle.search.proofs.Running.{run-on, run-found, run-none}

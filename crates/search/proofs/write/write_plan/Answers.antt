@@ -1,8 +1,8 @@
-use mathlib.Core.Path.{ap, _∙_}
+use mathlib.Core.Path.{ap}
 use native.Mathlib.Omega.{arith}
 use borrow.Author.Needs.{needs}
 use Prim.Native.Nat.{ℕ}
-use Rattle.search.proofs.Writing.{Ahead, ahead, write-on, write-first, write-done}
+use Rattle.search.proofs.Writing.{ahead, write-on, write-first, write-done}
 use Rattle.search.proofs.write.write_plan.Needs as need
 
 pub loop-at-holds : need.loop-at-holds

@@ -1,19 +1,18 @@
-use borrow.Author.Needs.{needs}
-use mathlib.Core.Path.{_≡_, refl, sym, ap, _∙_, subst}
-use mathlib.Core.List.{List, [], _∷_, _++_}
+use mathlib.Core.Path.{_≡_, sym, ap, _∙_, subst}
+use mathlib.Core.List.{_++_}
 use native.Mathlib.Omega.{arith}
-use Prim.Native.Nat.{_+_, _<_, _≤_}
+use Prim.Native.Nat.{_+_}
 use lib.ListN.{length, getD}
-use Rattle.std.specs.Of.Vec.{vec-items, vec-len}
+use Rattle.std.specs.Of.Vec.{vec-items}
 use Rattle.std.specs.Vec.{listOf}
 use Rattle.rules.specs.Rules.{Rules}
 use Rattle.trial.specs.Runs.{Replied, onward}
-use Rattle.trial.specs.Preparing.{Wide, AllWide}
+use Rattle.trial.specs.Preparing.{Wide}
 use Rattle.trial.specs.Tables.{Stands}
 use Rattle.trial.specs.Trials.{lists-of, source-of}
 use Rattle.trial.specs.declared.calls.Call.the-variants.{Change}
 use Rattle.trial.specs.declared.calls.Change.the-variants.{Assume}
-use Rattle.trial.proofs.Running.{run-none, run-more, run-all, wide-last}
+use Rattle.trial.proofs.Running.{run-more, run-all, wide-last}
 use Rattle.trial.proofs.runs.carry.Needs as need
 
 pub reply-said-requires : need.reply-said-requires

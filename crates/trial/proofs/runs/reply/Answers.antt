@@ -1,4 +1,4 @@
-use mathlib.Core.Path.{_≡_, refl, sym, subst}
+use mathlib.Core.Path.{refl, sym, subst}
 use Rattle.trial.specs.Runs.{Replied, onward}
 use Rattle.trial.specs.Tables.{Stands}
 use Rattle.trial.specs.Trials.{lists-of}

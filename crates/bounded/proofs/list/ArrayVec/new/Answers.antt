@@ -1,7 +1,6 @@
-use Prim.Native.Nat.{zero-le}
 use Rattle.std.proofs.shelf.Lists.{length-replicate}
 use borrow.Author.Needs.{needs}
 use Rattle.bounded.proofs.list.ArrayVec.new.Needs as need
 
 pub ghost-result : need.ghost-result
-ghost-result g c = (zero-le, (search (needs, length-replicate), tt))
+ghost-result g c = (search needs, (search (needs, length-replicate), tt))

@@ -1,13 +1,8 @@
 use mathlib.Core.Path.{_≡_, sym, ap, _∙_}
-use native.Mathlib.Omega.{arith}
 use lib.ListN.{length}
 use Rattle.std.proofs.shelf.Lists.{length-map}
 use Rattle.tables.specs.Rows.{accountEntry}
-use Rattle.host.specs.Tables.{hostTables}
-use Rattle.host.proofs.Sounds.{accounts-sound}
 use Rattle.host.proofs.host.Host.account_count.Needs as need
 
 pub returns : need.returns
-returns c =
-    let same : length (c .accounts .result .now) ≡ length (hostTables (c .args .self .now) .accounts) = sym (length-map (c .accounts .result .now) accountEntry) ∙ ap length (c .accounts .ensures) in
-    record { value = same; bound = omega (arith, accounts-sound (c .args .self .now .accounts) .few) }
+returns c = record { value = sym (length-map (c .accounts .result .now) accountEntry) ∙ ap length (c .accounts .ensures .entries); bound = c .accounts .ensures .few }

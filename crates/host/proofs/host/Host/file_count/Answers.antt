@@ -1,13 +1,8 @@
 use mathlib.Core.Path.{_≡_, sym, ap, _∙_}
-use native.Mathlib.Omega.{arith}
 use lib.ListN.{length}
 use Rattle.std.proofs.shelf.Lists.{length-map}
 use Rattle.listing.specs.Rows.{fileEntry}
-use Rattle.host.specs.Tables.{hostTables}
-use Rattle.listing.proofs.Sounds.{files-sound}
 use Rattle.host.proofs.host.Host.file_count.Needs as need
 
 pub returns : need.returns
-returns c =
-    let same : length (c .files .result .now) ≡ length (hostTables (c .args .self .now) .files) = sym (length-map (c .files .result .now) fileEntry) ∙ ap length (c .files .ensures) in
-    record { value = same; bound = omega (arith, files-sound (c .args .self .now .files) .few) }
+returns c = record { value = sym (length-map (c .files .result .now) fileEntry) ∙ ap length (c .files .ensures .entries); bound = c .files .ensures .few }

@@ -1,13 +1,8 @@
 use mathlib.Core.Path.{_≡_, sym, ap, _∙_}
-use native.Mathlib.Omega.{arith}
 use lib.ListN.{length}
 use Rattle.std.proofs.shelf.Lists.{length-map}
 use Rattle.tables.specs.Rows.{groupEntry}
-use Rattle.host.specs.Tables.{hostTables}
-use Rattle.host.proofs.Sounds.{groups-sound}
 use Rattle.host.proofs.host.Host.group_count.Needs as need
 
 pub returns : need.returns
-returns c =
-    let same : length (c .groups .result .now) ≡ length (hostTables (c .args .self .now) .groups) = sym (length-map (c .groups .result .now) groupEntry) ∙ ap length (c .groups .ensures) in
-    record { value = same; bound = omega (arith, groups-sound (c .args .self .now .groups) .few) }
+returns c = record { value = sym (length-map (c .groups .result .now) groupEntry) ∙ ap length (c .groups .ensures .entries); bound = c .groups .ensures .few }

@@ -1,4 +1,3 @@
-use borrow.Author.Needs.{needs}
 use native.Mathlib.Omega.{arith}
 use Rattle.writing.proofs.Chained.{then}
 use Rattle.matrix.proofs.Printing.{few-bytes, shown}

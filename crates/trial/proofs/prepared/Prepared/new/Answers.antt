@@ -1,6 +1,5 @@
-use mathlib.Core.Path.{_≡_, refl, sym, ap, _∙_, subst}
+use mathlib.Core.Path.{subst}
 use native.Mathlib.Omega.{arith}
-use Prim.Native.Nat.{_≤_}
 use Rattle.std.specs.Of.Vec.{vec-items}
 use Rattle.trial.specs.Preparing.{AllWide}
 use Rattle.trial.proofs.Running.{unmade}

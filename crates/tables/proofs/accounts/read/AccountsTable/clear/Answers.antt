@@ -1,13 +1,6 @@
 use borrow.Author.Needs.{needs}
-use mathlib.Core.Path.{_≡_}
-use mathlib.Core.List.{[]}
-use Prim.Native.Nat.{_≤_}
-use Rattle.std.specs.Of.Vec.{vec-items, vec-cap}
-use Rattle.tables.proofs.AccountLaws.{accounts-none}
+use Rattle.tables.proofs.AccountLaws.{accounts-empty}
 use Rattle.tables.proofs.accounts.read.AccountsTable.clear.Needs as need
 
 pub ghost-self : need.ghost-self
-ghost-self c =
-    let none : vec-items (c .clear .last .self) ≡ [] = search needs in
-    let room : 16 ≤ vec-cap (c .clear .last .self) = search needs in
-    (∣ rw none accounts-none ∣₁, (room, tt))
+ghost-self c = (search (needs, accounts-empty), (search needs, tt))

@@ -1,13 +1,6 @@
 use borrow.Author.Needs.{needs}
-use mathlib.Core.Path.{_≡_}
-use mathlib.Core.List.{[]}
-use Prim.Native.Nat.{_≤_}
-use Rattle.std.specs.Of.Vec.{vec-items, vec-cap}
-use Rattle.tables.proofs.HostLaws.{hosts-none}
+use Rattle.tables.proofs.HostLaws.{hosts-empty}
 use Rattle.tables.proofs.hosts.read.HostNamesTable.clear.Needs as need
 
 pub ghost-self : need.ghost-self
-ghost-self c =
-    let none : vec-items (c .clear .last .self) ≡ [] = search needs in
-    let room : 8 ≤ vec-cap (c .clear .last .self) = search needs in
-    (∣ rw none hosts-none ∣₁, (room, tt))
+ghost-self c = (search (needs, hosts-empty), (search needs, tt))

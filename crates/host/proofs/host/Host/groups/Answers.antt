@@ -1,0 +1,13 @@
+use mathlib.Core.Path.{_≡_, sym, ap, _∙_}
+use native.Mathlib.Omega.{arith}
+use lib.ListN.{length}
+use Rattle.std.proofs.shelf.Lists.{length-map}
+use Rattle.tables.specs.Rows.{groupEntry}
+use Rattle.tables.proofs.GroupLaws.{groups-sound}
+use Rattle.host.specs.Tables.{hostTables}
+use Rattle.host.proofs.host.Host.groups.Needs as need
+
+pub returns : need.returns
+returns c =
+    let many : length (c .as-slice .result .now) ≡ length (hostTables (c .args .self .now) .groups) = sym (length-map (c .as-slice .result .now) groupEntry) ∙ ap length (c .as-slice .ensures) in
+    record { entries = c .as-slice .ensures; few = omega (arith, groups-sound (c .args .self .now .groups) .few) }

@@ -1,0 +1,5 @@
+// What the privileges of hosts print.
+mod hosts;
+mod rights;
+
+pub use hosts::print_form;

@@ -1,0 +1,3 @@
+mod Parts
+mod Scans
+pub mod Seen

@@ -1,0 +1,61 @@
+// Accounts by place, by number and by name.
+ghost use mathlib.Core.Path.{_≡_};
+ghost use mathlib.Core.List.{map};
+ghost use Prim.Native.Nat.{ℕ, _≤_, _<_, _+_};
+ghost use lib.Chars.{codes};
+ghost use lib.ListN.{length};
+ghost use Rattle.std.specs.Finite.{nth};
+ghost use Rattle.std.specs.Options.{mapped};
+ghost use Rattle.std.specs.shelf.Text.{sameBytes};
+ghost use Rattle.region.specs.Places.{place-of};
+ghost use Rattle.tables.specs.Rows.{accountEntry};
+ghost use Rattle.allows.specs.Live.{numbered, is-first};
+use crate::places::at;
+use tables::Account;
+
+// The account at a place.
+pub fn account(rows: &[Account], i: usize) -> Option<&Account>
+    ensures { λ r. ⌜ mapped (λ a. accountEntry (now a)) r ≡ nth (map accountEntry (now (rows .entry))) i ⌝ }
+{
+    at(rows, i)
+}
+
+// The place of the first account with a number.
+pub fn numbered(rows: &[Account], n: u32) -> Option<u8>
+    requires { ⌜ length (now rows) ≤ 255 ⌝ }
+    ensures { λ r. ⌜ r ≡ numbered n (map accountEntry (now (rows .entry))) ⌝ }
+{
+    for (i, account) in rows.iter().enumerate() {
+        if account.number == n {
+            return Some(i as u8);
+        }
+    }
+    None
+}
+
+// Whether there is an account at a place, and it is the first with its number.
+pub fn is_first(rows: &[Account], i: u8) -> bool
+    requires { ⌜ length (now rows) ≤ 255 ⌝ }
+    ensures { λ r. ⌜ r ≡ is-first (map accountEntry (now (rows .entry))) i ⌝ }
+{
+    let Some(a) = account(rows, i as usize) else {
+        return false;
+    };
+    match numbered(rows, a.number) {
+        Some(first) => first == i,
+        None => false,
+    }
+}
+
+// The place of the account named `root`.
+pub fn root_account(rows: &[Account]) -> Option<u8>
+    requires { ⌜ length (now rows) ≤ 255 ⌝ }
+    ensures { λ r. ⌜ r ≡ place-of (λ a. sameBytes (a .name) (codes "root")) (map accountEntry (now (rows .entry))) ⌝ }
+{
+    for (i, account) in rows.iter().enumerate() {
+        if account.name.is(b"root") {
+            return Some(i as u8);
+        }
+    }
+    None
+}
