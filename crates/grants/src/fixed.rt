@@ -6,11 +6,17 @@ use region::Right;
 use region::encode;
 
 pub const PASSWD_ROW: u8 = 2;
+
 pub const GROUP_ROW: u8 = 3;
+
 pub const EQUIV_ROW: u8 = 4;
+
 pub const RC_ROW: u8 = 5;
+
 pub const RC_LOCAL_ROW: u8 = 6;
+
 pub const CRONTAB_ROW: u8 = 9;
+
 pub const ALIASES_ROW: u8 = 10;
 
 // A right at a host grants by the rule.

@@ -9,9 +9,9 @@ use crate::entries::host_at;
 use crate::files::replace_slot;
 use crate::files::write_slot;
 use crate::groups::group_slot;
+use crate::lives::is_live;
 use crate::numbers::name_slot;
 use crate::numbers::number_slot;
-use crate::lives::is_live;
 use crate::others::any_slot;
 use crate::others::root_slot;
 use host::Host;
@@ -62,5 +62,9 @@ pub fn live_slot(hosts: &[Host], g: u16, k: u16) -> Option<(u16, u8)>
     let Some((p, rule)) = ruled_slot(hosts, g, k as u8) else {
         return None;
     };
-    if is_live(hosts, g) && is_live(hosts, p) { Some((p, rule)) } else { None }
+    if is_live(hosts, g) && is_live(hosts, p) {
+        Some((p, rule))
+    } else {
+        None
+    }
 }

@@ -5,28 +5,12 @@ use mathlib.Core.List.{List, [], _∷_, map}
 use Prim.Native.Nat.{ℕ, zero, suc, _+_, _≤_, _<_}
 use native.Mathlib.Omega.{arith}
 use lib.ListN.{length, getD, drop}
-use Rattle.std.specs.Finite.{nth}
-use Rattle.std.specs.Options.{mapped}
-use Rattle.std.specs.declared.option.Option.{Option}
-use Rattle.std.specs.declared.option.Option.the-variants.{Some, None}
 use Rattle.std.proofs.shelf.Lists.{drop-more, drop-all, getD-map}
 use Rattle.region.specs.Tables.{AccountEntry, HostTables}
 use Rattle.host.specs.Wanted.{wants-rhosts-of, wants-rhosts}
 
 module _ {X Y : Type 0} (view : X → Y) where
-  nth-view : (xs : List X) (i : ℕ) → nth (map view xs) i ≡ mapped view (nth xs i)
-  nth-view [] i = refl
-  nth-view (x ∷ xs) zero = refl
-  nth-view (x ∷ xs) (suc i) = nth-view xs i
-
   -- what stands at a place of a list, seen as an entry of a table
-  pub entry-at : {R : Type 0} (now : R → X) (xs : List X) (ys : List Y) (i : ℕ) (o : Option R) → mapped now o ≡ nth xs i → map view xs ≡ ys → mapped (λ a. view (now a)) o ≡ nth ys i
-  entry-at {R = R} now xs ys i o e same = twice o ∙ ap (mapped view) e ∙ sym (nth-view xs i) ∙ ap (λ zs. nth zs i) same where
-    twice : (o : Option R) → mapped (λ a. view (now a)) o ≡ mapped view (mapped now o)
-    twice None = refl
-    twice (Some a) = refl
-
-  -- the same, with a default past the end
   pub entry-or : (xs : List X) (i : ℕ) (d : Y) (x : X) → i < length xs → x ≡ getD xs i x → view x ≡ getD (map view xs) i d
   entry-or xs i d x lt is = ap view is ∙ sym (getD-map view xs i x d lt)
 

@@ -1,17 +1,19 @@
 // What a host owns: all its memory is taken when it is made.
 ghost use mathlib.Core.Path.{_≡_};
 ghost use Rattle.std.specs.Of.Vec.{vec-len};
+
 mod entries;
 mod homes;
 mod reads;
 mod texts;
+
 use crate::rhosts::Rhosts;
 use listing::Files;
 use tables::Accounts;
 use tables::Groups;
+use text::Name;
 use trust::Domain;
 use trust::TrustLines;
-use text::Name;
 
 // A .rhosts has the place of its account.
 #[derive(Drop)]

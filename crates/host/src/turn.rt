@@ -11,10 +11,22 @@ pub fn in_turn(kind: Kind, text: &[u8], turn: bool) -> Result<(), TextFault>
     ensures { λ r. ⌜ r ≡ in-turn kind (now (text .entry)) turn ⌝ }
 {
     if text.len() > 8192 {
-        return Err(TextFault { kind, fault: LineFault { refusal: Refusal::TooLong, line: 0 } });
+        return Err(TextFault {
+            kind,
+            fault: LineFault {
+                refusal: Refusal::TooLong,
+                line: 0,
+            },
+        });
     }
     if !turn {
-        return Err(TextFault { kind, fault: LineFault { refusal: Refusal::OutOfTurn, line: 0 } });
+        return Err(TextFault {
+            kind,
+            fault: LineFault {
+                refusal: Refusal::OutOfTurn,
+                line: 0,
+            },
+        });
     }
     Ok(())
 }

@@ -9,17 +9,15 @@ use Rattle.std.specs.Finite.{nth}
 use Rattle.std.specs.Of.Vec.{vec-items}
 use Rattle.std.specs.declared.option.Option.the-variants.{Some, None}
 use Rattle.std.specs.declared.result.Result.{Result}
-use Rattle.std.specs.declared.result.Result.the-variants.{Ok, Err}
+use Rattle.std.specs.declared.result.Result.the-variants.{Err}
 use Rattle.reading.specs.declared.fault.Kind.{Kind}
-use Rattle.reading.specs.declared.fault.SiteFault.{SiteFault}
 use Rattle.reading.specs.declared.fault.TextFault.{TextFault}
-use Rattle.reading.specs.Faults.{atHost, tagged}
 use Rattle.region.specs.Tables.{HostTables}
 use Rattle.tables.specs.HostsText.{hostsOf}
 use Rattle.host.specs.declared.host.Host.{Host}
 use Rattle.host.specs.Tables.{hostTables}
 use Rattle.site.specs.declared.open.OpenSite.{OpenSite}
-use Rattle.site.specs.Models.{first-hosts, openModel, no-host, placed, host-answer, edited, host-after}
+use Rattle.site.specs.Models.{first-hosts, openModel, no-host, answer-at, edited, host-after}
 
 module _ {X Y : Type 0} (view : X → Y) where
   item-there : (n i : ℕ) (xs : List X) (x : X) → i < n → i < length xs → x ≡ getD xs i x → nth (take n (map view xs)) i ≡ Some (view x)
@@ -49,22 +47,13 @@ pub name-kept : (b : Bool) (t u : HostTables) → t .name ≡ u .name → cond b
 name-kept true t u e = e
 name-kept false t u e = refl
 
--- what a host answers, at the site
-placed-ok : (h : ℕ) (r : Result (Unit {0}) TextFault) (u : Unit {0}) → Ok u ≡ tagged h r → Ok tt ≡ placed h r
-placed-ok h (Ok u) v e = refl
-placed-ok h (Err f) v e = let z : _≡_ {A = ℕ} 0 1 = cc in absurd (omega arith)
-
-placed-err : (h : ℕ) (r : Result (Unit {0}) TextFault) (p : ℕ × TextFault) → Err p ≡ tagged h r → Err (atHost (p .0) (p .1)) ≡ placed h r
-placed-err h (Ok u) p e = let z : _≡_ {A = ℕ} 0 1 = cc in absurd (omega arith)
-placed-err h (Err f) p e = let same : p ≡ (h, f) = cc in ap (λ q. Err (atHost (q .0) (q .1))) same
-
 module _ (s : OpenSite) (h : ℕ) where
   -- no such host
   module _ (gone : s .count ≤ h) where
     past : length (openModel s .hosts) ≤ h
     past = simp length-take (omega arith)
 
-    pub answer-gone : (k : Kind) (answer : HostTables → Result (Unit {0}) TextFault) → host-answer k h answer (openModel s) ≡ Err (no-host k h)
+    pub answer-gone : (k : Kind) (answer : HostTables → Result (Unit {0}) TextFault) → answer-at k answer (nth (openModel s .hosts) h) ≡ Err (no-host k)
     answer-gone k answer = rw (none-there (openModel s .hosts) h past)
 
     pub after-gone : (after : HostTables → HostTables) → openModel s ≡ host-after h after (openModel s)
@@ -75,14 +64,8 @@ module _ (s : OpenSite) (h : ℕ) where
     at-place : h < length (vec-items (s .hosts))
     at-place = let few = s .within in let eight = s .«eight» in let whole = s .hosts .ok .0 in omega arith
 
-    pub answer-there : (k : Kind) (answer : HostTables → Result (Unit {0}) TextFault) → host-answer k h answer (openModel s) ≡ placed h (answer (hostTables x))
+    pub answer-there : (k : Kind) (answer : HostTables → Result (Unit {0}) TextFault) → answer-at k answer (nth (openModel s .hosts) h) ≡ answer (hostTables x)
     answer-there k answer = rw (item-there hostTables (s .count) h (vec-items (s .hosts)) x there at-place is)
-
-    pub told-ok : (k : Kind) (answer : HostTables → Result (Unit {0}) TextFault) (r : Result (Unit {0}) TextFault) → r ≡ answer (hostTables x) → (u : Unit {0}) → Ok u ≡ tagged h r → Ok tt ≡ host-answer k h answer (openModel s)
-    told-ok k answer r t u e = placed-ok h r u e ∙ ap (placed h) t ∙ sym (answer-there k answer)
-
-    pub told-err : (k : Kind) (answer : HostTables → Result (Unit {0}) TextFault) (r : Result (Unit {0}) TextFault) → r ≡ answer (hostTables x) → (p : ℕ × TextFault) → Err p ≡ tagged h r → (q : Result (Unit {0}) SiteFault) (f : SiteFault) → q ≡ Err f → f ≡ atHost (p .0) (p .1) → q ≡ host-answer k h answer (openModel s)
-    told-err k answer r t p e q f is from = is ∙ ap Err from ∙ placed-err h r p e ∙ ap (placed h) t ∙ sym (answer-there k answer)
 
     hosts-there : (after : HostTables → HostTables) (y : Host) → hostTables y ≡ after (hostTables x) → first-hosts (s .count) (set (vec-items (s .hosts)) h y) ≡ edited after (openModel s .hosts) h
     hosts-there after y e = item-edited hostTables after (s .count) h (vec-items (s .hosts)) x y there at-place is e

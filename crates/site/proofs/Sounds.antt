@@ -35,4 +35,5 @@ module _ (hosts : List Host) (count : ℕ) (names : HostNames) (within : count �
   site-sound = record {
     few = simp length-take (omega arith);
     hosts = λ i t e. each-first HostSound count hosts i t e (λ h same. subst HostSound same (host-sound h (subst (λ u. OwnName (u .name)) (sym same) (hosts-sound names .formed i (t .name) (name-at i t e)))));
-    names = λ i j t u e f same. hosts-sound names .names i j (t .name) (u .name) (name-at i t e) (name-at j u f) same }
+    names = λ i j t u e f same. hosts-sound names .names i j (t .name) (u .name) (name-at i t e) (name-at j u f) same;
+  }

@@ -86,12 +86,17 @@ all-read t e =
     let y = passed (t .ypconf-read) _ _ (q .1) in
     let none = unwanted (wants-rhosts t 0 (t .accounts)) (y .1) in
     record {
-      passwd = p .0; group = g .0; mtree = m .0; equiv = q .0; ypconf = y .0;
+      passwd = p .0;
+      group = g .0;
+      mtree = m .0;
+      equiv = q .0;
+      ypconf = y .0;
       rhosts = λ i r a x there file.
-        let here : 0 + i ≡ i = omega arith in
-        was-read (getD (t .rhosts-read) i false) (isSome (home-row t a (codes "/.rhosts")))
-        (ap (λ n. wants-rhosts-of t n a) (sym here) ∙ not-wanted t 0 (t .accounts) none i a there)
-        (home-place t a (codes "/.rhosts") r x file) }
+          let here : 0 + i ≡ i = omega arith in
+          was-read (getD (t .rhosts-read) i false) (isSome (home-row t a (codes "/.rhosts")))
+          (ap (λ n. wants-rhosts-of t n a) (sym here) ∙ not-wanted t 0 (t .accounts) none i a there)
+          (home-place t a (codes "/.rhosts") r x file);
+    }
 
 none-missing : (h : ℕ) (o : Option Kind) (rest : Result (Unit {0}) SiteFault) → isOk (unread-or h o rest) ≡ true → (o ≡ None) × (isOk rest ≡ true)
 none-missing h None rest e = (refl, e)

@@ -64,18 +64,18 @@ hosts-answer m bs = placed 0 (answered Hosts bs (hosts-turn m) (hostsIn bs))
 abbrev pub hosts-after : SiteModel → List ℕ → SiteModel
 hosts-after m bs = cond (taken bs (hosts-turn m)) (record { hosts-read = isOk (hostsIn bs); hosts = map unread-tables (valueOr [] (hostsIn bs)) }) m
 
--- host h is not there
-abbrev pub no-host : Kind → ℕ → SiteFault
-no-host k h = atHost h (inText k (fault Unknown 0))
+-- there is no such host
+abbrev pub no-host : Kind → TextFault
+no-host k = inText k (fault Unknown 0)
 
--- what a call answers that is about a host
-abbrev pub answer-at : Kind → ℕ → (HostTables → Result (Unit {0}) TextFault) → Option HostTables → Result (Unit {0}) SiteFault
-answer-at k h answer None = Err (no-host k h)
-answer-at k h answer (Some t) = placed h (answer t)
+-- what a call for a text of a kind answers that goes to a host, if there is one
+abbrev pub answer-at : Kind → (HostTables → Result (Unit {0}) TextFault) → Option HostTables → Result (Unit {0}) TextFault
+answer-at k answer None = Err (no-host k)
+answer-at k answer (Some t) = answer t
 
--- what a call for a text of a kind of host h answers
+-- what it answers for host h
 abbrev pub host-answer : Kind → ℕ → (HostTables → Result (Unit {0}) TextFault) → SiteModel → Result (Unit {0}) SiteFault
-host-answer k h answer m = answer-at k h answer (nth (m .hosts) h)
+host-answer k h answer m = placed h (answer-at k answer (nth (m .hosts) h))
 
 -- a list whose item at a place is changed, if there is one
 abbrev pub edited : {X : Type 0} → (X → X) → List X → ℕ → List X

@@ -1,4 +1,4 @@
-// An open site that wants no text more is closed, and a closed one is opened again.
+// An open site that wants no text more is closed.
 ghost use mathlib.Core.Path.{_≡_};
 ghost use mathlib.Core.Bool.{true};
 ghost use mathlib.Core.List.{map};
@@ -23,7 +23,16 @@ use reading::TextFault;
 fn missing(host: u8, kind: Kind) -> SiteFault
     ensures { λ r. ⌜ r ≡ missing host kind ⌝ }
 {
-    SiteFault { host, fault: TextFault { kind, fault: LineFault { refusal: Refusal::Unread, line: 0 } } }
+    SiteFault {
+        host,
+        fault: TextFault {
+            kind,
+            fault: LineFault {
+                refusal: Refusal::Unread,
+                line: 0,
+            },
+        },
+    }
 }
 
 fn check_hosts(hosts: &[Host]) -> Result<(), SiteFault>
@@ -54,16 +63,12 @@ impl OpenSite {
         requires { ⌜ isOk (checked (openModel self .hosts)) ≡ true ⌝ }
         ensures { λ r. ⌜ Closes (openModel self) (closedModel r) ⌝ }
     {
-        ClosedSite { hosts: self.hosts, count: self.count, names: self.names, hosts_read: self.hosts_read }
-    }
-}
-
-impl ClosedSite {
-    // Opens the site again.
-    pub fn reopen(self) -> OpenSite
-        ensures { λ r. ⌜ openModel r ≡ closedModel self ⌝ }
-    {
-        OpenSite { hosts: self.hosts, count: self.count, names: self.names, hosts_read: self.hosts_read }
+        ClosedSite {
+            hosts: self.hosts,
+            count: self.count,
+            names: self.names,
+            hosts_read: self.hosts_read,
+        }
     }
 }
 

@@ -9,7 +9,11 @@ ghost use Rattle.std.specs.Results.{isOk};
 ghost use Rattle.tables.specs.HostsText.{hostsOf};
 ghost use Rattle.host.specs.Tables.{hostTables};
 ghost use Rattle.site.specs.Checks.{checked};
-mod hosts;
+
+mod methods;
+pub mod named;
+pub mod source;
+
 use host::Host;
 use tables::HostNames;
 

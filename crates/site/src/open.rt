@@ -6,8 +6,11 @@ ghost use lib.ListN.{take};
 ghost use Rattle.std.specs.Of.Vec.{vec-items, vec-len};
 ghost use Rattle.tables.specs.HostsText.{hostsOf};
 ghost use Rattle.host.specs.Tables.{hostTables};
+
 mod hosts;
+mod places;
 mod reads;
+
 use host::Host;
 use tables::HostNames;
 

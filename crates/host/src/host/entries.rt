@@ -13,9 +13,11 @@ ghost use Rattle.trust.specs.Rows.{trustEntry};
 ghost use Rattle.trust.specs.DomainText.{domainOf};
 ghost use Rattle.allows.specs.Trust.{rhosts-of};
 ghost use Rattle.host.specs.Tables.{hostTables};
-use listing::FileRow;
-use lookups::at;
 use super::Host;
+use listing::FileRow;
+use lookups::account;
+use lookups::group;
+use lookups::row;
 use tables::Account;
 use tables::Group;
 use text::Name;
@@ -31,6 +33,7 @@ impl Host {
 
     pub fn accounts(&self) -> &[Account]
         ensures entries { λ r. ⌜ map accountEntry (now r) ≡ hostTables (now (self .entry)) .accounts ⌝ }
+        ensures count { λ r. ⌜ length (now r) ≡ length (hostTables (now (self .entry)) .accounts) ⌝ }
         ensures few { λ r. ⌜ length (now r) ≤ 16 ⌝ }
     {
         self.accounts.as_slice()
@@ -38,6 +41,7 @@ impl Host {
 
     pub fn groups(&self) -> &[Group]
         ensures entries { λ r. ⌜ map groupEntry (now r) ≡ hostTables (now (self .entry)) .groups ⌝ }
+        ensures count { λ r. ⌜ length (now r) ≡ length (hostTables (now (self .entry)) .groups) ⌝ }
         ensures few { λ r. ⌜ length (now r) ≤ 16 ⌝ }
     {
         self.groups.as_slice()
@@ -45,6 +49,7 @@ impl Host {
 
     pub fn files(&self) -> &[FileRow]
         ensures entries { λ r. ⌜ map fileEntry (now r) ≡ hostTables (now (self .entry)) .files ⌝ }
+        ensures count { λ r. ⌜ length (now r) ≡ length (hostTables (now (self .entry)) .files) ⌝ }
         ensures few { λ r. ⌜ length (now r) ≤ 64 ⌝ }
     {
         self.files.as_slice()
@@ -53,19 +58,19 @@ impl Host {
     pub fn account(&self, i: usize) -> Option<&Account>
         ensures { λ r. ⌜ mapped (λ a. accountEntry (now a)) r ≡ nth (hostTables (now (self .entry)) .accounts) i ⌝ }
     {
-        at(self.accounts(), i)
+        account(self.accounts(), i)
     }
 
     pub fn group(&self, j: usize) -> Option<&Group>
         ensures { λ r. ⌜ mapped (λ g. groupEntry (now g)) r ≡ nth (hostTables (now (self .entry)) .groups) j ⌝ }
     {
-        at(self.groups(), j)
+        group(self.groups(), j)
     }
 
-    pub fn file(&self, row: usize) -> Option<&FileRow>
-        ensures { λ r. ⌜ mapped (λ x. fileEntry (now x)) r ≡ nth (hostTables (now (self .entry)) .files) row ⌝ }
+    pub fn file(&self, place: usize) -> Option<&FileRow>
+        ensures { λ r. ⌜ mapped (λ x. fileEntry (now x)) r ≡ nth (hostTables (now (self .entry)) .files) place ⌝ }
     {
-        at(self.files(), row)
+        row(self.files(), place)
     }
 
     pub fn account_count(&self) -> usize
@@ -100,7 +105,11 @@ impl Host {
     pub fn rhosts(&self, account: usize) -> &[TrustLine]
         ensures { λ r. ⌜ map trustEntry (now r) ≡ rhosts-of (hostTables (now (self .entry))) account ⌝ }
     {
-        if account < self.rhosts.len() { self.rhosts[account].lines() } else { &[] }
+        if account < self.rhosts.len() {
+            self.rhosts[account].lines()
+        } else {
+            &[]
+        }
     }
 
     // Whether the .rhosts of an account has been read.

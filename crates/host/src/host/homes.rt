@@ -3,8 +3,8 @@ ghost use mathlib.Core.Path.{_≡_};
 ghost use Rattle.tables.specs.Rows.{accountEntry};
 ghost use Rattle.host.specs.Tables.{hostTables};
 ghost use Rattle.host.specs.Wanted.{wants-rhosts-of, wants-rhosts};
-use lookups::home_row;
 use super::Host;
+use lookups::home_row;
 use tables::Account;
 
 impl Host {

@@ -3,13 +3,13 @@ ghost use mathlib.Core.Path.{_≡_};
 ghost use Rattle.tables.specs.HostsText.{hostsOf};
 ghost use Rattle.host.specs.Tables.{hostTables};
 ghost use Rattle.host.specs.Reads.{passwd-answer, passwd-after, group-answer, group-after, mtree-answer, mtree-after, equiv-answer, equiv-after, ypconf-answer, ypconf-after, rhosts-answer, rhosts-after};
+use super::Host;
 use crate::turn::in_turn;
 use listing::read_files;
 use reading::Kind;
 use reading::LineFault;
 use reading::Refusal;
 use reading::TextFault;
-use super::Host;
 use tables::HostNames;
 use tables::read_accounts;
 use tables::read_groups;
@@ -77,9 +77,19 @@ impl Host {
         ensures told { λ r. ⌜ r ≡ rhosts-answer account (hostTables (now (self .entry))) (now (text .entry)) ⌝ }
         ensures held { λ r. ⌜ hostTables (now (self .exit)) ≡ rhosts-after account (hostTables (now (self .entry))) (now (text .entry)) ⌝ }
     {
-        in_turn(Kind::Rhosts, text, self.passwd_read & !self.has_rhosts(account))?;
+        in_turn(
+            Kind::Rhosts,
+            text,
+            self.passwd_read & !self.has_rhosts(account),
+        )?;
         if account >= self.account_count() {
-            return Err(TextFault { kind: Kind::Rhosts, fault: LineFault { refusal: Refusal::Unknown, line: 0 } });
+            return Err(TextFault {
+                kind: Kind::Rhosts,
+                fault: LineFault {
+                    refusal: Refusal::Unknown,
+                    line: 0,
+                },
+            });
         }
         self.rhosts[account].read(text)
     }

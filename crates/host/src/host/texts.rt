@@ -6,6 +6,7 @@ ghost use Rattle.std.specs.Vec.{made};
 ghost use Rattle.text.specs.Kept.{nameBytes};
 ghost use Rattle.host.specs.Tables.{hostTables, unread-tables};
 ghost use Rattle.host.specs.Wanted.{first-unread};
+use super::Host;
 use crate::rhosts::clear_rhosts;
 use crate::rhosts::unread_rhosts;
 use listing::Files;
@@ -13,7 +14,6 @@ use reading::Kind;
 use reading::Table;
 use std::alloc::AllocError;
 use std::alloc::Global;
-use super::Host;
 use tables::Accounts;
 use tables::AccountsTable;
 use tables::Groups;
@@ -31,7 +31,20 @@ impl Host {
         let files = Files::new(heap)?;
         let equiv = TrustLines::new(heap)?;
         let rhosts = unread_rhosts(heap)?;
-        Ok(Host { name, accounts, groups, files, equiv, domain: None, rhosts, passwd_read: false, group_read: false, mtree_read: false, equiv_read: false, ypconf_read: false })
+        Ok(Host {
+            name,
+            accounts,
+            groups,
+            files,
+            equiv,
+            domain: None,
+            rhosts,
+            passwd_read: false,
+            group_read: false,
+            mtree_read: false,
+            equiv_read: false,
+            ypconf_read: false,
+        })
     }
 
     // Makes all texts unread and their tables as on the first day.

@@ -11,6 +11,7 @@ ghost use Rattle.tables.specs.HostsText.{hostsIn};
 ghost use Rattle.host.specs.Tables.{hostTables, unread-tables};
 ghost use Rattle.host.specs.Reads.{answered};
 ghost use Rattle.site.specs.Models.{openModel, unread-site, hosts-turn, hosts-answer, hosts-after};
+use super::OpenSite;
 use crate::first::first_hosts;
 use host::Host;
 use host::in_turn;
@@ -21,7 +22,6 @@ use reading::TextFault;
 use reading::at;
 use std::alloc::AllocError;
 use std::alloc::Global;
-use super::OpenSite;
 use tables::HostNames;
 use tables::read_hosts;
 use text::Name;
@@ -58,7 +58,12 @@ impl OpenSite {
     {
         let names = HostNames::new(heap)?;
         let hosts = spare_hosts(heap)?;
-        Ok(OpenSite { hosts, count: 0, names, hosts_read: false })
+        Ok(OpenSite {
+            hosts,
+            count: 0,
+            names,
+            hosts_read: false,
+        })
     }
 
     // The hosts, by the numbers that the hosts text gives them.

@@ -12,10 +12,11 @@ use Rattle.host.proofs.rhosts.clear_rhosts.Needs as need
 pub loop-i-again : need.loop-i-again
 loop-i-again c =
     let v = c .loop-i .list in
-    let lt : c .loop-i .i < length (vec-items v) = omega (arith, v .ok .0) in
-    ( c .loop-i .inv .0
-    , set-alike linesOf [] (vec-items v) (c .loop-i .i) (c .clear .last .self) lt (c .loop-i .inv .1) (c .clear .ensures .lines)
-    , set-alike (λ x. x .read) false (vec-items v) (c .loop-i .i) (c .clear .last .self) lt (c .loop-i .inv .2) (c .clear .ensures .read) )
+    let lt : c .loop-i .i < length (vec-items v) = omega (arith, v .ok .0) in (
+      c .loop-i .inv .0,
+      set-alike linesOf [] (vec-items v) (c .loop-i .i) (c .clear .last .self) lt (c .loop-i .inv .1) (c .clear .ensures .lines),
+      set-alike (λ x. x .read) false (vec-items v) (c .loop-i .i) (c .clear .last .self) lt (c .loop-i .inv .2) (c .clear .ensures .read),
+    )
 
 pub returns : need.returns
 returns c =
@@ -25,4 +26,5 @@ returns c =
     record {
       len = c .loop-i .inv .0;
       lines = all-alike linesOf [] (vec-items v) (c .loop-i .i) done (c .loop-i .inv .1) ∙ ap (λ n. replicate n []) whole;
-      read = all-alike (λ x. x .read) false (vec-items v) (c .loop-i .i) done (c .loop-i .inv .2) ∙ ap (λ n. replicate n false) whole }
+      read = all-alike (λ x. x .read) false (vec-items v) (c .loop-i .i) done (c .loop-i .inv .2) ∙ ap (λ n. replicate n false) whole;
+    }

@@ -12,4 +12,5 @@ returns c =
     let whole : c .args .count - 0 ≡ c .args .count = omega arith in
     record {
       hosts = ap (λ n. map hostTables (take n (c .args .hosts .now))) whole ∙ sym (take-map hostTables (c .args .count) (c .args .hosts .now));
-      len = simp length-take (omega arith) }
+      len = simp length-take (omega arith);
+    }

@@ -10,4 +10,4 @@ use Rattle.host.proofs.host.Host.accounts.Needs as need
 pub returns : need.returns
 returns c =
     let many : length (c .as-slice .result .now) ≡ length (hostTables (c .args .self .now) .accounts) = sym (length-map (c .as-slice .result .now) accountEntry) ∙ ap length (c .as-slice .ensures) in
-    record { entries = c .as-slice .ensures; few = omega (arith, accounts-sound (c .args .self .now .accounts) .few) }
+    record { entries = c .as-slice .ensures; count = many; few = omega (arith, accounts-sound (c .args .self .now .accounts) .few) }

@@ -10,4 +10,4 @@ use Rattle.host.proofs.host.Host.files.Needs as need
 pub returns : need.returns
 returns c =
     let many : length (c .as-slice .result .now) ≡ length (hostTables (c .args .self .now) .files) = sym (length-map (c .as-slice .result .now) fileEntry) ∙ ap length (c .as-slice .ensures) in
-    record { entries = c .as-slice .ensures; few = omega (arith, files-sound (c .args .self .now .files) .few) }
+    record { entries = c .as-slice .ensures; count = many; few = omega (arith, files-sound (c .args .self .now .files) .few) }

@@ -10,4 +10,4 @@ use Rattle.host.proofs.host.Host.groups.Needs as need
 pub returns : need.returns
 returns c =
     let many : length (c .as-slice .result .now) ≡ length (hostTables (c .args .self .now) .groups) = sym (length-map (c .as-slice .result .now) groupEntry) ∙ ap length (c .as-slice .ensures) in
-    record { entries = c .as-slice .ensures; few = omega (arith, groups-sound (c .args .self .now .groups) .few) }
+    record { entries = c .as-slice .ensures; count = many; few = omega (arith, groups-sound (c .args .self .now .groups) .few) }

@@ -21,7 +21,8 @@ returns c =
     record {
       told = c .read .ensures .told ∙ told;
       held =
-        put-same t _ _ _ _
-        (map-set linesOf xs i y ∙ ap (set (map linesOf xs) i) (c .read .ensures .lines))
-        (map-set (λ x. x .read) xs i y ∙ ap (set (map (λ x. x .read) xs) i) (c .read .ensures .read))
-        ∙ held }
+          put-same t _ _ _ _
+          (map-set linesOf xs i y ∙ ap (set (map linesOf xs) i) (c .read .ensures .lines))
+          (map-set (λ x. x .read) xs i y ∙ ap (set (map (λ x. x .read) xs) i) (c .read .ensures .read))
+          ∙ held;
+    }

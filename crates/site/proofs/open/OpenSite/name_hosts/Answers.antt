@@ -18,8 +18,13 @@ begin-hosts-requires c κs =
 pub ghost-self : need.ghost-self
 ghost-self c =
     let names = c .as-slice-names .result .now in
-    let many : length names ≡ length (hostsOf (c .read-hosts-read .last .hosts)) = sym (length-map names nameBytes) ∙ ap length (c .as-slice-names .ensures) in
-    ( c .begin-hosts .ensures .len ∙ c .args .self .now .«eight»
-    , ( omega (arith, hosts-sound (c .read-hosts-read .last .hosts) .few)
-      , ( ap (map (λ t. t .name)) (c .begin-hosts .ensures .begun) ∙ names-begun (map nameBytes names) ∙ c .as-slice-names .ensures
-        , tt ) ) )
+    let many : length names ≡ length (hostsOf (c .read-hosts-read .last .hosts)) = sym (length-map names nameBytes) ∙ ap length (c .as-slice-names .ensures) in (
+      c .begin-hosts .ensures .len ∙ c .args .self .now .«eight»,
+      (
+        omega (arith, hosts-sound (c .read-hosts-read .last .hosts) .few),
+        (
+          ap (map (λ t. t .name)) (c .begin-hosts .ensures .begun) ∙ names-begun (map nameBytes names) ∙ c .as-slice-names .ensures,
+          tt,
+        ),
+      ),
+    )

@@ -22,6 +22,7 @@ returns c =
     record {
       len = c .loop-i .inv .0;
       begun =
-        ap (λ n. take n (map hostTables (vec-items (c .loop-i .hosts)))) whole
-        ∙ c .loop-i .inv .1
-        ∙ ap (λ ns. map unread-tables (map nameBytes ns)) (take-all (c .loop-i .i) (c .args .names .now) (c .loop-i-test .left)) }
+          ap (λ n. take n (map hostTables (vec-items (c .loop-i .hosts)))) whole
+          ∙ c .loop-i .inv .1
+          ∙ ap (λ ns. map unread-tables (map nameBytes ns)) (take-all (c .loop-i .i) (c .args .names .now) (c .loop-i-test .left));
+    }
