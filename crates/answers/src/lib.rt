@@ -1,7 +1,7 @@
 // Asks one question of a bare trial over a named source, and prints the answer.
-mod answer;
-mod question;
+mod asked;
+mod lines;
 
-pub use answer::answer;
-pub use question::held_alone;
-pub use question::start_and_goal;
+pub use asked::answer;
+pub use lines::held_alone;
+pub use lines::start_and_goal;

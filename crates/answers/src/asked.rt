@@ -1,8 +1,8 @@
 // One question, answered in printed lines.
 ghost use mathlib.Core.Path.{_≡_};
 ghost use Rattle.search.specs.Refusals.{number};
-use crate::question::held_alone;
-use crate::question::start_and_goal;
+use crate::lines::held_alone;
+use crate::lines::start_and_goal;
 use print::no_chain_line;
 use print::plan_line;
 use print::refusal_line;
