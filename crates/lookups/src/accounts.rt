@@ -3,6 +3,7 @@ ghost use mathlib.Core.Path.{_≡_};
 ghost use mathlib.Core.List.{map};
 ghost use Prim.Native.Nat.{ℕ, _≤_, _<_, _+_};
 ghost use lib.Chars.{codes};
+ghost use lib.Dec.{eqb};
 ghost use lib.ListN.{length};
 ghost use Rattle.std.specs.Finite.{nth};
 ghost use Rattle.std.specs.Options.{mapped};
@@ -20,13 +21,25 @@ pub fn account(rows: &[Account], i: usize) -> Option<&Account>
     at(rows, i)
 }
 
+fn has_number(account: &Account, n: u32) -> bool
+    ensures { λ r. ⌜ r ≡ eqb (accountEntry (now (account .entry)) .number) n ⌝ }
+{
+    account.number == n
+}
+
+fn is_root(account: &Account) -> bool
+    ensures { λ r. ⌜ r ≡ sameBytes (accountEntry (now (account .entry)) .name) (codes "root") ⌝ }
+{
+    account.name.is(b"root")
+}
+
 // The place of the first account with a number.
 pub fn numbered(rows: &[Account], n: u32) -> Option<u8>
     requires { ⌜ length (now rows) ≤ 255 ⌝ }
     ensures { λ r. ⌜ r ≡ numbered n (map accountEntry (now (rows .entry))) ⌝ }
 {
     for (i, account) in rows.iter().enumerate() {
-        if account.number == n {
+        if has_number(account, n) {
             return Some(i as u8);
         }
     }
@@ -53,7 +66,7 @@ pub fn root_account(rows: &[Account]) -> Option<u8>
     ensures { λ r. ⌜ r ≡ place-of (λ a. sameBytes (a .name) (codes "root")) (map accountEntry (now (rows .entry))) ⌝ }
 {
     for (i, account) in rows.iter().enumerate() {
-        if account.name.is(b"root") {
+        if is_root(account) {
             return Some(i as u8);
         }
     }

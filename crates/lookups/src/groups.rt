@@ -21,13 +21,19 @@ pub fn group(rows: &[Group], j: usize) -> Option<&Group>
     at(rows, j)
 }
 
+fn has_number(group: &Group, n: u32) -> bool
+    ensures { λ r. ⌜ r ≡ eqb (groupEntry (now (group .entry)) .number) n ⌝ }
+{
+    group.number == n
+}
+
 // The place of the group with a number.
 pub fn group_numbered(rows: &[Group], n: u32) -> Option<u8>
     requires { ⌜ length (now rows) ≤ 255 ⌝ }
     ensures { λ r. ⌜ r ≡ place-of (λ b. eqb (b .number) n) (map groupEntry (now (rows .entry))) ⌝ }
 {
     for (i, group) in rows.iter().enumerate() {
-        if group.number == n {
+        if has_number(group, n) {
             return Some(i as u8);
         }
     }

@@ -10,8 +10,6 @@ pub use accounts::account;
 pub use accounts::is_first;
 pub use accounts::numbered;
 pub use accounts::root_account;
-pub use bytes::joins;
-pub use bytes::joins_three;
 pub use groups::belongs;
 pub use groups::group;
 pub use groups::group_numbered;

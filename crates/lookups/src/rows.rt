@@ -63,13 +63,20 @@ pub fn home_row(rows: &[FileRow], home: &Path, file: &[u8]) -> Option<u8>
     present_row(rows, home_front(home), file)
 }
 
+// Whether a row has the path of a NIS map of a domain.
+fn is_nis_map(row: &FileRow, domain: &Name, file: &[u8]) -> bool
+    ensures { λ r. ⌜ r ≡ sameBytes (fileEntry (now (row .entry)) .path) (nis-map (nameBytes (now (domain .entry))) (now (file .entry))) ⌝ }
+{
+    joins_three(row.path.as_slice(), b"/var/yp/", domain.as_slice(), file)
+}
+
 // The place of the row of a NIS map of a domain, present or not; the map's name has a slash before it.
 pub fn nis_row(rows: &[FileRow], domain: &Name, file: &[u8]) -> Option<u8>
     requires { ⌜ length (now rows) ≤ 255 ⌝ }
     ensures { λ r. ⌜ r ≡ place-of (λ x. sameBytes (x .path) (nis-map (nameBytes (now (domain .entry))) (now (file .entry)))) (map fileEntry (now (rows .entry))) ⌝ }
 {
     for (i, row) in rows.iter().enumerate() {
-        if joins_three(row.path.as_slice(), b"/var/yp/", domain.as_slice(), file) {
+        if is_nis_map(row, domain, file) {
             return Some(i as u8);
         }
     }

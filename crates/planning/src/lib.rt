@@ -61,14 +61,19 @@ fn folder_of(rt: &LibcRuntime) -> io::Result<String> {
     Ok(String::from_str(rt.alloc(), ".")?)
 }
 
-// Runs the program; an error where the answer was refused, so that the status tells.
+// Answers a question over a region's folder, or prints the first refusal; says whether it was an answer.
+pub fn answer_folder(rt: &LibcRuntime, folder: &str, question: &[u8]) -> io::Result<bool> {
+    match closed_site(rt, folder)? {
+        Some(site) => answer::<ClosedSite, Steps>(rt, site, question),
+        None => Ok(false),
+    }
+}
+
+// Runs the program; an error where the question was refused, so that the status tells.
 pub fn run(rt: &LibcRuntime) -> Result<(), AnyError> {
     let folder = folder_of(rt)?;
-    let Some(site) = closed_site(rt, folder.as_str())? else {
-        return Err("refused".into());
-    };
     let question = question(rt)?;
-    if answer::<ClosedSite, Steps>(rt, site, question.as_slice())? {
+    if answer_folder(rt, folder.as_str(), question.as_slice())? {
         Ok(())
     } else {
         Err("refused".into())

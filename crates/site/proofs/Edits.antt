@@ -1,6 +1,5 @@
 -- A call about one host: what it answers, and what it leaves. Assumes nothing.
 use mathlib.Core.Path.{_≡_, refl, sym, ap, _∙_}
-use mathlib.Core.Bool.{Bool, true, false, cond}
 use mathlib.Core.List.{List, [], _∷_, map}
 use Prim.Native.Nat.{ℕ, zero, suc, _≤_, _<_}
 use native.Mathlib.Omega.{arith}
@@ -41,11 +40,6 @@ none-edited : {X : Type 0} (f : X → X) (xs : List X) (i : ℕ) → length xs �
 none-edited f [] i h = refl
 none-edited f (x ∷ xs) zero h = absurd (omega arith)
 none-edited f (x ∷ xs) (suc i) h = ap (λ ys. x ∷ ys) (none-edited f xs i (omega arith))
-
--- a read keeps the host's name
-pub name-kept : (b : Bool) (t u : HostTables) → t .name ≡ u .name → cond b t u .name ≡ u .name
-name-kept true t u e = e
-name-kept false t u e = refl
 
 module _ (s : OpenSite) (h : ℕ) where
   -- no such host

@@ -25,12 +25,14 @@ use trust::Domain;
 use trust::TrustLine;
 
 impl Host {
+    // What the host is called.
     pub fn name(&self) -> &Name
         ensures { λ r. ⌜ nameBytes (now r) ≡ hostTables (now (self .entry)) .name ⌝ }
     {
         &self.name
     }
 
+    // The accounts in the order of their lines.
     pub fn accounts(&self) -> &[Account]
         ensures entries { λ r. ⌜ map accountEntry (now r) ≡ hostTables (now (self .entry)) .accounts ⌝ }
         ensures count { λ r. ⌜ length (now r) ≡ length (hostTables (now (self .entry)) .accounts) ⌝ }
@@ -39,6 +41,7 @@ impl Host {
         self.accounts.as_slice()
     }
 
+    // The groups in the order of their lines.
     pub fn groups(&self) -> &[Group]
         ensures entries { λ r. ⌜ map groupEntry (now r) ≡ hostTables (now (self .entry)) .groups ⌝ }
         ensures count { λ r. ⌜ length (now r) ≡ length (hostTables (now (self .entry)) .groups) ⌝ }
@@ -47,6 +50,7 @@ impl Host {
         self.groups.as_slice()
     }
 
+    // The file rows by their places.
     pub fn files(&self) -> &[FileRow]
         ensures entries { λ r. ⌜ map fileEntry (now r) ≡ hostTables (now (self .entry)) .files ⌝ }
         ensures count { λ r. ⌜ length (now r) ≡ length (hostTables (now (self .entry)) .files) ⌝ }
@@ -55,24 +59,28 @@ impl Host {
         self.files.as_slice()
     }
 
+    // The account at a place.
     pub fn account(&self, i: usize) -> Option<&Account>
         ensures { λ r. ⌜ mapped (λ a. accountEntry (now a)) r ≡ nth (hostTables (now (self .entry)) .accounts) i ⌝ }
     {
         account(self.accounts(), i)
     }
 
+    // The group at a place.
     pub fn group(&self, j: usize) -> Option<&Group>
         ensures { λ r. ⌜ mapped (λ g. groupEntry (now g)) r ≡ nth (hostTables (now (self .entry)) .groups) j ⌝ }
     {
         group(self.groups(), j)
     }
 
+    // The file row at a place.
     pub fn file(&self, place: usize) -> Option<&FileRow>
         ensures { λ r. ⌜ mapped (λ x. fileEntry (now x)) r ≡ nth (hostTables (now (self .entry)) .files) place ⌝ }
     {
         row(self.files(), place)
     }
 
+    // How many accounts there are.
     pub fn account_count(&self) -> usize
         ensures value { λ r. ⌜ r ≡ length (hostTables (now (self .entry)) .accounts) ⌝ }
         ensures bound { λ r. ⌜ r ≤ 16 ⌝ }
@@ -80,6 +88,7 @@ impl Host {
         self.accounts().len()
     }
 
+    // How many groups there are.
     pub fn group_count(&self) -> usize
         ensures value { λ r. ⌜ r ≡ length (hostTables (now (self .entry)) .groups) ⌝ }
         ensures bound { λ r. ⌜ r ≤ 16 ⌝ }
@@ -87,6 +96,7 @@ impl Host {
         self.groups().len()
     }
 
+    // How many file rows there are, present or not.
     pub fn file_count(&self) -> usize
         ensures value { λ r. ⌜ r ≡ length (hostTables (now (self .entry)) .files) ⌝ }
         ensures bound { λ r. ⌜ r ≤ 64 ⌝ }
@@ -119,6 +129,7 @@ impl Host {
         account < self.rhosts.len() && self.rhosts[account].read
     }
 
+    // The domain of yp.conf, if it names one.
     pub fn domain(&self) -> Option<Domain>
         ensures { λ r. ⌜ domainOf r ≡ hostTables (now (self .entry)) .domain ⌝ }
     {

@@ -1,10 +1,7 @@
 use mathlib.Core.Bool.{_&&_}
 use mathlib.Core.List.{_++_}
-use lib.Chars.{codes}
 use Rattle.std.specs.Options.{isSome}
 use Rattle.std.specs.shelf.Text.{sameBytes}
-use Rattle.text.specs.Kept.{nameBytes}
-use Rattle.allows.specs.Paths.{nis-map}
 use Rattle.region.specs.Tables.{FileEntry}
 use Rattle.listing.specs.Rows.{fileEntry}
 use Rattle.lookups.proofs.Scans.{Left}
