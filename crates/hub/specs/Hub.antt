@@ -43,7 +43,7 @@ group-text = text (codes "wheel:*:0:" ∷ codes "staff:*:20:" ∷ [])
 
 abbrev pub mtree-text : List ℕ
 mtree-text = text (codes ". type=dir uid=0 gid=0 mode=755" ∷ codes "./etc type=dir uid=0 gid=0 mode=755" ∷ codes "./home type=dir uid=0 gid=0 mode=755"
-  ∷ codes "./etc/passwd type=file uid=11 gid=0 mode=644" ∷ codes "./home/larry type=dir uid=11 gid=20 mode=755" ∷ codes "./home/larry/.cshrc type=file uid=11 gid=20 mode=664" ∷ [])
+    ∷ codes "./etc/passwd type=file uid=11 gid=0 mode=644" ∷ codes "./home/larry type=dir uid=11 gid=20 mode=755" ∷ codes "./home/larry/.cshrc type=file uid=11 gid=20 mode=664" ∷ [])
 
 -- the number by which a text is refused, and 0 where it is taken
 abbrev pub refused : {X : Type 0} → Result X LineFault → ℕ
