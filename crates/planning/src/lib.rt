@@ -28,7 +28,7 @@ fn refuse(rt: &LibcRuntime, fault: SiteFault) -> io::Result<()> {
 }
 
 // The site of a folder, or none where a text was refused and the refusal has been printed.
-fn closed_site(rt: &LibcRuntime, folder: &str) -> io::Result<Option<ClosedSite>> {
+pub fn closed_site(rt: &LibcRuntime, folder: &str) -> io::Result<Option<ClosedSite>> {
     let site = match read_region(rt, folder) {
         Ok(site) => site,
         Err(Stopped::Refused(fault)) => {
