@@ -1,5 +1,7 @@
 // A list of at most N items: the first len of the N places are in use.
-ghost use Rattle.std.specs.Prelude.{◌≤◌, length};
+ghost use Rattle.std.specs.Prelude.{◌≡◌, ◌≤◌, length, ⊤};
+
+use std::alloc::AllocError;
 
 mod methods;
 
@@ -11,3 +13,13 @@ pub struct ArrayVec<T, const N: usize> {
 }
 
 impl<T: Copy, const N: usize> Copy for ArrayVec<T, N> {}
+
+impl<T: Copy, const N: usize> Clone for ArrayVec<T, N> {
+    ghost is_clone = { λ a b. b ≡ a };
+
+    ghost is_infallible = { λ _. ⊤ };
+
+    fn clone(&self) -> Result<Self, AllocError> {
+        Ok(*self)
+    }
+}

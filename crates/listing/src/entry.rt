@@ -12,12 +12,11 @@ use reading::{LineFault, Refusal};
 use text::{Path, is_text, mode_of, number_of};
 
 // The path of a line, and what it says of the file there.
+#[derive(Clone, Copy)]
 pub struct Row {
     pub path: Path,
     pub stat: Stat,
 }
-
-impl Copy for Row {}
 
 // What the words so far give of one thing.
 #[derive(Clone, Copy)]

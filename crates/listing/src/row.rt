@@ -10,10 +10,9 @@ pub struct Stat {
 }
 
 // A path, the place of the row of the directory above it, and its stat, none while it is absent.
+#[derive(Clone, Copy)]
 pub struct FileRow {
     pub path: Path,
     pub above: u8,
     pub stat: Option<Stat>,
 }
-
-impl Copy for FileRow {}

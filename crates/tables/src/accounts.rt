@@ -8,14 +8,13 @@ pub mod read;
 use text::{Name, Path};
 
 // A line of a passwd text.
+#[derive(Clone, Copy)]
 pub struct Account {
     pub name: Name,
     pub number: u32,
     pub group: u32,
     pub home: Path,
 }
-
-impl Copy for Account {}
 
 #[derive(Drop)]
 pub struct Accounts {

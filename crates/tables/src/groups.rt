@@ -11,13 +11,12 @@ use crate::accounts::Accounts;
 use text::Name;
 
 // A line of a group text: listed has for each account, by its place, whether the line names it as a member.
+#[derive(Clone, Copy)]
 pub struct Group {
     pub name: Name,
     pub number: u32,
     pub listed: [bool; 16],
 }
-
-impl Copy for Group {}
 
 #[derive(Drop)]
 pub struct Groups {

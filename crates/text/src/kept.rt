@@ -10,17 +10,15 @@ mod of_path;
 use bounded::ArrayVec;
 
 // A name, of a host, an account, a group or a domain.
+#[derive(Clone, Copy)]
 pub struct Name {
     bytes: ArrayVec<u8, 31>,
     ghost formed: { name (items_of bytes) ≡ true },
 }
 
-impl Copy for Name {}
-
 // The path of a file.
+#[derive(Clone, Copy)]
 pub struct Path {
     bytes: ArrayVec<u8, 63>,
     ghost formed: { path (items_of bytes) ≡ true },
 }
-
-impl Copy for Path {}

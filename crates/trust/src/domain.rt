@@ -16,12 +16,11 @@ use tables::HostNames;
 use text::{Name, is_name, is_text, next_word};
 
 // A domain, and the place of its server among the hosts.
+#[derive(Clone, Copy)]
 pub struct Domain {
     pub name: Name,
     pub server: u8,
 }
-
-impl Copy for Domain {}
 
 #[derive(Clone, Copy)]
 struct Words<'a> {

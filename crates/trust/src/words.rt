@@ -10,19 +10,17 @@ use reading::{LineFault, Refusal};
 use text::{Name, is_text, next_word};
 
 // A plus, or a name.
+#[derive(Clone, Copy)]
 pub enum TrustWord {
     Anyone,
     Named(Name),
 }
 
-impl Copy for TrustWord {}
-
+#[derive(Clone, Copy)]
 pub struct TrustLine {
     pub host: TrustWord,
     pub user: Option<TrustWord>,
 }
-
-impl Copy for TrustLine {}
 
 #[derive(Clone, Copy)]
 struct Words<'a> {

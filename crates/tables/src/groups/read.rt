@@ -46,12 +46,11 @@ fn entry_of<'a>(line: &'a [u8]) -> Option<Entry<'a>>
 }
 
 // The name and the number that a line gives a group.
+#[derive(Clone, Copy)]
 struct Head {
     name: Name,
     number: u32,
 }
-
-impl Copy for Head {}
 
 fn head_of(n: u32, kept: Entry) -> Result<Head, LineFault>
     ensures value { ok_mapped group_head result ≡ group_head_in n (group_fields kept.entry) }

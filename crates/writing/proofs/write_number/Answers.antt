@@ -3,8 +3,8 @@ use Rattle.std.proofs.lemmas.Fmt.{decimal_nonempty}
 use Rattle.writing.proofs.Filled.{step_length, one_length, front, back, whole}
 use Rattle.writing.proofs.write_number.Goals as goal
 
-pub overflow-sub-i : goal.overflow-sub-i
-overflow-sub-i c = omega (arith, decimal_nonempty c.loop-left.left (search rules))
+pub overflow_sub-i : goal.overflow_sub-i
+overflow_sub-i c = omega (arith, decimal_nonempty c.loop-left.left (search rules))
 
 pub bounds-out-i : goal.bounds-out-i
 bounds-out-i c = search (rules, decimal_nonempty c.loop-left.left (search rules))
@@ -25,8 +25,8 @@ loop-left-preserved c =
       back m i (i - 1) (48 + m % 10) out was next within _ (search rules) (search rules) refl c.loop-left.invariant.4,
     )
 
-pub overflow-sub-i-2 : goal.overflow-sub-i-2
-overflow-sub-i-2 c = omega (arith, decimal_nonempty c.loop-left.left (search rules))
+pub overflow_sub-i-2 : goal.overflow_sub-i-2
+overflow_sub-i-2 c = omega (arith, decimal_nonempty c.loop-left.left (search rules))
 
 pub bounds-out-i-2 : goal.bounds-out-i-2
 bounds-out-i-2 c = search (rules, decimal_nonempty c.loop-left.left (search rules))
@@ -44,5 +44,5 @@ returns c =
     record {
       end = search rules;
       fits = search rules;
-      is = whole m i (i - 1) (48 + m) out was next within _ c.loop-left-test.false refl c.loop-left.invariant.3 c.loop-left.invariant.4 ∙ ap (λ k. take k was ++ (decimal c.args.n ++ drop (c.args.at + c.digit-count.result) was)) place;
+      is = whole m i (i - 1) (48 + m) out was next within _ c.loop-left-test.false refl c.loop-left.invariant.3 c.loop-left.invariant.4 ∙ ap (λ k. take k was ++ (decimal c.args.n ++ drop (c.args.at + c.digit_count.result) was)) place;
     }
