@@ -1,4 +1,6 @@
 // Rule sources, their printed forms, and the measures by which chains are weighed.
+#![tactic(auto)]
+
 pub mod measure;
 pub mod named;
 pub mod source;

@@ -1,5 +1,5 @@
 -- A number that is read is the value of its digits. Assumes nothing.
-use Rattle.std.proofs.Common.{◌≡◌, ℕ, zero, suc, ◌+◌, ◌-◌, ◌*◌, ◌^◌, ◌<◌, ◌≤◌, Bool, true, false, cond, ◌&&◌, leb, List, [], ◌∷◌, length, IfSome, Some, None, Option, sym, refl, ap, ◌∙◌, mul_assoc, mul_comm, add-mul, arith}
+use Rattle.std.proofs.Common.{◌≡◌, ℕ, suc, ◌+◌, ◌-◌, ◌*◌, ◌^◌, Bool, true, false, cond, leb, List, [], ◌∷◌, length, IfSome, Some, None, Option, refl, ap, ◌∙◌, mul_assoc, mul_comm, add-mul, arith}
 use native.Mathlib.Nat.{pow-succ', pow-zero}
 use Rattle.std.proofs.lemmas.Bool.{and_from}
 use Rattle.text.specs.Bytes.{all, within, digit, octal, and_then, written, up_to, number, mode}

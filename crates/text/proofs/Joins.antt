@@ -1,10 +1,10 @@
 -- Lines, fields and words joined again are the text. Assumes nothing.
-use Rattle.std.proofs.Common.{◌≡◌, ℕ, ◌<◌, Bool, true, false, cond, not, ◌&&◌, eqb, List, [], ◌∷◌, ◌++◌, length, Some, None, filter, Option, sym, refl, ap, ◌∙◌, arith}
+use Rattle.std.proofs.Common.{◌≡◌, ℕ, Bool, true, false, cond, not, ◌&&◌, eqb, List, [], ◌∷◌, ◌++◌, Some, filter, sym, refl, ap, ◌∙◌, arith}
 use Rattle.std.proofs.lemmas.Bool.{eqb-true, and_parts, and_from}
 use Rattle.text.specs.declared.cuts.Mark.{Mark}
 use Rattle.text.specs.declared.cuts.Mark.TheVariants.{Newline, Blank, Colon, Comma, Slash, Equals, Hash}
 use Rattle.text.specs.Bytes.{all}
-use Rattle.text.specs.Cuts.{marks, until, past, onto, parted, later, lines, fields, words, some}
+use Rattle.text.specs.Cuts.{marks, until, past, onto, parted, later, lines, fields, some}
 use Rattle.text.specs.PartLaws.{markless, ended, whole_lines, LinesJoined, joined_by, mark_byte, FieldsJoined, one_after_another, WordsApart}
 use Rattle.text.proofs.Parted.{fields_cut, lines_cut}
 

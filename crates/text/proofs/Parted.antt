@@ -1,5 +1,5 @@
 -- A text is its first part and the parts past the mark. Assumes nothing.
-use Rattle.std.proofs.Common.{◌≡◌, ℕ, ◌+◌, ◌<◌, Bool, true, false, cond, ◌⊎◌, List, [], ◌∷◌, length, get_or, IfSome, Some, None, filter, Option, sym, refl, ap, ◌∙◌, inl, inr, ⊎_elim, arith}
+use Rattle.std.proofs.Common.{◌≡◌, ℕ, ◌<◌, Bool, true, false, ◌⊎◌, List, [], ◌∷◌, length, get_or, IfSome, Some, None, filter, Option, sym, refl, ap, inl, inr, ⊎_elim, arith}
 use Rattle.text.specs.declared.cuts.Mark.{Mark}
 use Rattle.text.specs.Cuts.{marks, until, past, onto, parted, later, fields, fields_past, lines, words, some}
 use Rattle.text.specs.declared.cuts.Mark.TheVariants.{Newline, Blank}

@@ -1,5 +1,5 @@
 -- Texts cut at marks. Assumes nothing.
-use Rattle.std.specs.Prelude.{◌≡◌, ℕ, ◌<◌, Bool, true, false, cond, not, ◌&&◌, ◌||◌, List, [], ◌∷◌, ◌++◌, length, Some, None, filter, Option, ◌==◌}
+use Rattle.std.specs.Prelude.{◌≡◌, ℕ, ◌<◌, Bool, true, false, cond, ◌||◌, List, [], ◌∷◌, length, Some, None, filter, Option, ◌==◌}
 use Rattle.std.specs.Borrow.{Bor}
 use Rattle.text.specs.declared.cuts.Mark.{Mark}
 use Rattle.text.specs.declared.cuts.Mark.TheVariants.{Newline, Blank, Colon, Comma, Slash, Equals, Hash}

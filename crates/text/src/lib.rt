@@ -1,4 +1,6 @@
 // Lines, fields, words, names, paths, numbers and modes: what the bytes of a text are.
+#![tactic(auto)]
+
 mod cuts;
 mod kept;
 mod names;

@@ -1,4 +1,6 @@
 // Writes numbers and texts into memory that is lent, from a place given. The bytes around stay.
+#![tactic(auto)]
+
 ghost use Rattle.std.specs.Prelude.{◌≡◌, ◌+◌, ◌≤◌, length, decimal};
 ghost use Rattle.writing.specs.Wrote.{Wrote};
 

@@ -1,12 +1,12 @@
-use Rattle.std.proofs.Common.{◌≡◌, ◌+◌, ◌-◌, length, take, drop, Some, None, Option, rules}
+use Rattle.std.proofs.Common.{◌≡◌, ◌+◌, ◌-◌, length, take, drop, Some, None, rules}
 use Rattle.std.proofs.lemmas.List.{take_rest}
 use Rattle.text.specs.Cuts.{marks, until, past}
 use Rattle.text.proofs.Parted.{fields_told, shorter_told}
 use Rattle.text.proofs.Steps.{until_more, until_stops, until-all, past_more, past_stops, past_all}
 use Rattle.text.proofs.cuts.cut.Goals as goal
 
-pub returns-then-is-mark : goal.returns-then-is-mark
-returns-then-is-mark c =
+pub returns-then-is_mark : goal.returns-then-is_mark
+returns-then-is_mark c =
     let s = c.args.s.now in
     let i = c.loop-i.i in
     let p : take (i - 0) s ≡ until (marks c.args.m) s = search (rules, until_stops) in

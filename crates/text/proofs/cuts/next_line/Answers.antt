@@ -1,11 +1,11 @@
-use Rattle.std.proofs.Common.{◌<◌, length, sym, arith, rules, false-eqb}
+use Rattle.std.proofs.Common.{◌<◌, length, sym, rules}
 use Rattle.std.proofs.lemmas.List.{nil_from_length}
 use Rattle.text.proofs.Joins.{lines-joined}
 use Rattle.text.proofs.Parted.{lines_told, past_shorter}
 use Rattle.text.proofs.cuts.next_line.Goals as goal
 
-pub returns-then-is-empty : goal.returns-then-is-empty
-returns-then-is-empty c = search (rules, nil_from_length, lines-joined)
+pub returns-then-is_empty : goal.returns-then-is_empty
+returns-then-is_empty c = search (rules, nil_from_length, lines-joined)
 
 pub returns-in-Some : goal.returns-in-Some
 returns-in-Some c =

@@ -7,14 +7,14 @@ use Rattle.text.proofs.numbers.mode_of.Goals as goal
 before : (c : goal.In-Some) → c.loop-b.n < 512
 before c = octal_before _ _ c.loop-b.invariant.1 (omega arith)
 
-pub returns-in-default : goal.returns-in-default
-returns-in-default c = search (rules, written_no)
+pub returns-in_default : goal.returns-in_default
+returns-in_default c = search (rules, written_no)
 
-pub overflow-mul-n : goal.overflow-mul-n
-overflow-mul-n c = omega (arith, before c)
+pub overflow_mul-n : goal.overflow_mul-n
+overflow_mul-n c = omega (arith, before c)
 
-pub overflow-add-n : goal.overflow-add-n
-overflow-add-n c = let k : c.in-Some.d < 8 = search (rules, octal_small) in omega (arith, before c)
+pub overflow_add-n : goal.overflow_add-n
+overflow_add-n c = let k : c.in-Some.d < 8 = search (rules, octal_small) in omega (arith, before c)
 
 pub loop-b-preserved : goal.loop-b-preserved
 loop-b-preserved c = search (rules, written_more, grown, octal_small)

@@ -4,8 +4,8 @@ use Rattle.text.proofs.Digits.{number-value}
 use Rattle.text.proofs.Steps.{written_more, written_no, written-end, grown, digit_small}
 use Rattle.text.proofs.numbers.number_of.Goals as goal
 
-pub returns-in-default : goal.returns-in-default
-returns-in-default c = search (rules, written_no)
+pub returns-in_default : goal.returns-in_default
+returns-in_default c = search (rules, written_no)
 
 pub loop-b-preserved : goal.loop-b-preserved
 loop-b-preserved c = search (rules, written_more, grown, digit_small)

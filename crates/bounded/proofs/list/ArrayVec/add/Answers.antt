@@ -1,4 +1,4 @@
-use Rattle.std.proofs.Common.{◌≡◌, ◌<◌, ◌≤◌, length, sym, ap, ◌∙◌, append-nil, arith, rules}
+use Rattle.std.proofs.Common.{ap, ◌∙◌, append-nil, rules}
 use Rattle.std.proofs.lemmas.List.{take_all, length-take-le}
 use Rattle.bounded.specs.ArrayVecs.{items_of}
 use Rattle.bounded.proofs.Clips.{add-room, add-full}

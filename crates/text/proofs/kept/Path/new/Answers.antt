@@ -3,10 +3,10 @@ use Rattle.text.specs.Paths.{path}
 use Rattle.text.proofs.Wholes.{whole, path-short, same_form, is-formed}
 use Rattle.text.proofs.kept.Path.new.Goals as goal
 
-pub invariant-of-result : goal.invariant-of-result
-invariant-of-result c =
+pub invariant_of-result : goal.invariant_of-result
+invariant_of-result c =
     let h : path c.args.s.now ≡ true = search rules in
-    (same_form path (whole c.new-bytes.ensures c.add.ensures (path-short _ h)) h, tt)
+    record { formed = same_form path (whole c.new-bytes.ensures c.add.ensures (path-short _ h)) h }
 
 pub returns : goal.returns
 returns c =
