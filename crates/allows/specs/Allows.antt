@@ -90,7 +90,7 @@ pub record EquivLetsIn (t : HostTables) (a : AccountEntry) (s : HostTables) (b :
   pub not_root : a.number ≡ 0 → ⊥
   pub line : SomeLetsIn t.equiv s b a
 
--- The file.rhosts in the home of a is present and is owned by the number of a.
+-- The file .rhosts in the home of a is present and is owned by the number of a.
 pub record OwnRhosts (t : HostTables) (a : AccountEntry) : Type 0 where
   pub row : ℕ
   pub entry : FileEntry

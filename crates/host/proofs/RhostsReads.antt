@@ -28,7 +28,7 @@ module _ (t : HostTables) (i : ℕ) (bs : List ℕ) (read : Bool) (is : read ≡
   pub held-rhosts : with_rhosts i (value_or [] (trust_in 4 bs)) (is_ok (trust_in 4 bs)) t ≡ rhosts_after i t bs
   held-rhosts = rw (now-read.0, now-read.1, has)
 
--- the tables with other.rhosts
+-- the tables with other .rhosts
 abbrev put_rhosts : HostTables → List (List TrustEntry) → List Bool → HostTables
 put_rhosts t lines read = record {
   name = t.name;

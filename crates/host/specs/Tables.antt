@@ -11,7 +11,7 @@ use Rattle.trust.specs.DomainText.{domain_of}
 use Rattle.host.specs.declared.host.Host.{Host}
 use Rattle.host.specs.declared.rhosts.Rhosts.{Rhosts}
 
--- the lines of a.rhosts
+-- the lines of a .rhosts
 abbrev pub lines_of : Rhosts → List TrustEntry
 lines_of r = trust_of r.lines
 

@@ -32,7 +32,7 @@ pub data TrustWord : Type 0 where
   anyone : TrustWord
   named : List ℕ → TrustWord
 
--- a line of hosts.equiv or of a.rhosts
+-- a line of hosts.equiv or of a .rhosts
 pub record TrustEntry : Type 0 where
   pub host : TrustWord
   pub user : Option TrustWord

@@ -1,4 +1,6 @@
 // A region's tables as plain records, and its privileges by number.
+#![tactic(auto)]
+
 mod numbering;
 mod privilege;
 

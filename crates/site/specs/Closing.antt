@@ -5,7 +5,7 @@ use Rattle.region.specs.Sound.{Entry, Each}
 use Rattle.allows.specs.Allows.{HomeFile, Exact}
 use Rattle.site.specs.Models.{SiteModel}
 
--- All texts of a host that are wanted have been read; a.rhosts is wanted where it is present in the account's home.
+-- All texts of a host that are wanted have been read; a .rhosts is wanted where it is present in the account's home.
 pub record AllRead (t : HostTables) : Type 0 where
   pub passwd : t.passwd_read ≡ true
   pub group : t.group_read ≡ true

@@ -1,4 +1,4 @@
--- What hosts.equiv and a.rhosts say. Assumes nothing.
+-- What hosts.equiv and a .rhosts say. Assumes nothing.
 use Rattle.std.specs.Prelude.{ℕ, Bool, true, false, cond, not, ◌&&◌, ◌||◌, List, [], ◌∷◌, map, Some, None, Ok, vec_items, codes, Option, Result, ◌==◌}
 use Rattle.std.specs.Option.{option_map}
 use Rattle.std.specs.Str.{bytes_eq}
