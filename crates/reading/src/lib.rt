@@ -1,4 +1,6 @@
 // How a text is read: line by line into a table, up to the first line that is refused.
+#![tactic(auto)]
+
 mod fault;
 mod table;
 

@@ -45,8 +45,8 @@ pub fn is_passed_over(line: &[u8]) -> bool
 
 fn read_lines<T: Table>(table: &mut T, text: &[u8]) -> Result<(), LineFault>
     requires { length text.now ≤ 8192 }
-    ensures kept { kept table.new ≡ kept table.old }
-    ensures taken { outcome result (seen table.new) ≡ read_from (step (kept table.old)) 1 (seen table.old) (lines text.now) }
+    ensures kept { T.kept table.new ≡ T.kept table.old }
+    ensures taken { outcome result (T.seen table.new) ≡ read_from (T.step (T.kept table.old)) 1 (T.seen table.old) (lines text.now) }
 {
     let mut rest = text;
     let mut n: u32 = 0;
@@ -60,9 +60,9 @@ fn read_lines<T: Table>(table: &mut T, text: &[u8]) -> Result<(), LineFault>
 
 // Puts what a text says in place of what the table holds; a text that is refused leaves the table as on the first day.
 pub fn read_text<T: Table>(table: &mut T, text: &[u8]) -> Result<(), LineFault>
-    ensures kept { kept table.new ≡ kept table.old }
-    ensures told { result ≡ told (read_text (step (kept table.old)) first text.now) }
-    ensures held { seen table.new ≡ value_or first (read_text (step (kept table.old)) first text.now) }
+    ensures kept { T.kept table.new ≡ T.kept table.old }
+    ensures told { result ≡ told (read_text (T.step (T.kept table.old)) T.first text.now) }
+    ensures held { T.seen table.new ≡ value_or T.first (read_text (T.step (T.kept table.old)) T.first text.now) }
 {
     table.clear();
     if text.len() > 8192 {
