@@ -1,5 +1,5 @@
 -- What is sound is so in one way only, so that it can be taken out of a table's invariant. Assumes nothing.
-use Rattle.std.proofs.Common.{◌≡◌, ℕ, ◌≤◌, Bool, true, false, List, length}
+use Rattle.std.proofs.Common.{ℕ, true, false, List}
 use native.Mathlib.Bridge.{le_prop}
 use base.Stored.{coded_ℕ, coded_bool}
 use denote.Struct.Props.{≡_prop}

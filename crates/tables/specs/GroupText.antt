@@ -1,5 +1,5 @@
 -- What a group text says. Assumes nothing.
-use Rattle.std.specs.Prelude.{◌≡◌, ℕ, ◌≤◌, Bool, true, false, cond, not, ◌||◌, List, [], ◌∷◌, map, length, replicate, is_some, Some, None, Ok, vec_items, Option, Result, ◌==◌, slice_index_or, slice_set}
+use Rattle.std.specs.Prelude.{ℕ, ◌≤◌, Bool, true, false, cond, not, ◌||◌, List, [], ◌∷◌, map, length, replicate, is_some, Some, None, Ok, vec_items, Option, Result, ◌==◌, slice_index_or, slice_set}
 use Rattle.std.specs.Str.{bytes_eq}
 use Rattle.text.specs.declared.cuts.Mark.TheVariants.{Colon, Comma}
 use Rattle.text.specs.Bytes.{all, name, number}

@@ -1,5 +1,5 @@
 -- Whom the line of a group lists. Assumes nothing.
-use Rattle.std.specs.Prelude.{◌≡◌, ℕ, false, List, [], ◌∷◌, Decides, slice_index_or}
+use Rattle.std.specs.Prelude.{ℕ, false, List, [], ◌∷◌, Decides, slice_index_or}
 use Rattle.text.specs.Cuts.{fields}
 use Rattle.text.specs.declared.cuts.Mark.TheVariants.{Colon}
 use Rattle.region.specs.Tables.{AccountEntry, GroupEntry}

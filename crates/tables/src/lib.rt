@@ -1,4 +1,6 @@
 // The tables that a region's texts are read into: hosts, and for each host its accounts and its groups.
+#![tactic(auto)]
+
 mod accounts;
 mod groups;
 mod hosts;

@@ -150,7 +150,7 @@ pub fn read_groups(accounts: &Accounts, groups: &mut Groups, text: &[u8]) -> Res
     ensures counted { is_ok result ≡ true → length (groups_of groups.new) ≡ length (lines text.now) }
     ensures members { is_ok result ≡ true → LineByLine (ListedExactly (accounts_of accounts.now)) (lines text.now) (groups_of groups.new) }
 {
-    let idle = Vec::new(groups.rows.allocator());
+    let idle = Vec::new(*groups.rows.allocator());
     let rows = replace(&mut groups.rows, idle);
     let mut reading = Reading { accounts, rows };
     let read = read_text(&mut reading, text);

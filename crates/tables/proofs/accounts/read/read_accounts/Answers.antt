@@ -10,5 +10,5 @@ use Rattle.tables.proofs.accounts.read.read_accounts.Goals as goal
 pub returns : goal.returns
 returns c =
     let told : ◌≡◌ {A = Result (Unit {0}) TextFault} (Ok tt) (text_told Passwd (accounts_in c.args.text.now)) = search rules in
-    let held : accounts_of c.read-text.new.table ≡ value_or [] (accounts_in c.args.text.now) = search rules in
-    record { told = told; held = held; sound = accounts_sound c.read-text.new.table; counted = λ _. ap length held ∙ accounts_counted c.args.text.now (ap is_ok (sym told)) }
+    let held : accounts_of c.read_text.new.table ≡ value_or [] (accounts_in c.args.text.now) = search rules in
+    record { told = told; held = held; sound = accounts_sound c.read_text.new.table; counted = λ _. ap length held ∙ accounts_counted c.args.text.now (ap is_ok (sym told)) }

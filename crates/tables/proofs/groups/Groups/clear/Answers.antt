@@ -2,5 +2,5 @@ use Rattle.std.proofs.Common.{rules}
 use Rattle.tables.proofs.GroupLaws.{groups-empty}
 use Rattle.tables.proofs.groups.Groups.clear.Goals as goal
 
-pub invariant-of-self : goal.invariant-of-self
-invariant-of-self c = (search (rules, groups-empty), (search rules, tt))
+pub invariant_of-self : goal.invariant_of-self
+invariant_of-self c = record { sound = search (rules, groups-empty); room = search rules }

@@ -2,5 +2,5 @@ use Rattle.std.proofs.Common.{rules}
 use Rattle.tables.proofs.GroupLaws.{groups-empty}
 use Rattle.tables.proofs.groups.Groups.new.Goals as goal
 
-pub invariant-of-result : goal.invariant-of-result
-invariant-of-result c = (search (rules, groups-empty), (search rules, tt))
+pub invariant_of-result : goal.invariant_of-result
+invariant_of-result c = record { sound = search (rules, groups-empty); room = search rules }

@@ -14,11 +14,11 @@ pub returns : goal.returns
 returns c =
     let accounts = accounts_of c.args.accounts.now in
     let told : ◌≡◌ {A = Result (Unit {0}) TextFault} (Ok tt) (text_told Group (groups_in accounts c.args.text.now)) = search rules in
-    let held : groups_read c.read-text-read.new.table ≡ value_or [] (groups_in accounts c.args.text.now) = search rules in
+    let held : groups_read c.read_text-read.new.table ≡ value_or [] (groups_in accounts c.args.text.now) = search rules in
     record {
       told = told;
       held = held;
-      sound = reading_sound c.read-text-read.new.table;
+      sound = reading_sound c.read_text-read.new.table;
       counted = λ _. ap length held ∙ groups_counted accounts c.args.text.now (ap is_ok (sym told));
       members = λ _. rw held (members-listed accounts (accounts_sound c.args.accounts.now) c.args.text.now (ap is_ok (sym told)));
     }

@@ -10,5 +10,5 @@ use Rattle.tables.proofs.hosts.read.read_hosts.Goals as goal
 pub returns : goal.returns
 returns c =
     let told : ◌≡◌ {A = Result (Unit {0}) TextFault} (Ok tt) (text_told Hosts (hosts_in c.args.text.now)) = search rules in
-    let held : hosts_of c.read-text.new.table ≡ value_or [] (hosts_in c.args.text.now) = search rules in
-    record { told = told; held = held; sound = hosts_sound c.read-text.new.table; counted = λ _. ap length held ∙ hosts_counted c.args.text.now (ap is_ok (sym told)) }
+    let held : hosts_of c.read_text.new.table ≡ value_or [] (hosts_in c.args.text.now) = search rules in
+    record { told = told; held = held; sound = hosts_sound c.read_text.new.table; counted = λ _. ap length held ∙ hosts_counted c.args.text.now (ap is_ok (sym told)) }

@@ -2,5 +2,5 @@ use Rattle.std.proofs.Common.{rules}
 use Rattle.tables.proofs.AccountLaws.{accounts-empty}
 use Rattle.tables.proofs.accounts.read.AccountsTable.clear.Goals as goal
 
-pub invariant-of-self : goal.invariant-of-self
-invariant-of-self c = (search (rules, accounts-empty), (search rules, tt))
+pub invariant_of-self : goal.invariant_of-self
+invariant_of-self c = record { sound = search (rules, accounts-empty); room = search rules }

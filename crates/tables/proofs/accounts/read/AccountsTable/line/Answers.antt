@@ -14,15 +14,15 @@ returns-then-len-ge16 c =
     let full : ltb (length (accounts_of old)) 16 ≡ false = le-ltb _ _ many in
     search rules
 
-pub invariant-of-self : goal.invariant-of-self
-invariant-of-self c =
+pub invariant_of-self : goal.invariant_of-self
+invariant_of-self c =
     let old = c.args.self.now in
-    let account = c.in-ok-account.account in
-    let grown : map account_entry (vec_items c.push-reserved.new.self) ≡ accounts_of old ++ account_entry account ∷ [] = search (rules, map_push account_entry (vec_items old.rows) account) in
+    let account = c.in_ok-account.account in
+    let grown : map account_entry (vec_items c.push_reserved.new.self) ≡ accounts_of old ++ account_entry account ∷ [] = search (rules, map_push account_entry (vec_items old.rows) account) in
     let fresh : is_some (account_place (account_entry account).name (accounts_of old)) ≡ false = search rules in
     let few : length (accounts_of old) < 16 = search (rules, length-map) in
-    let room : 16 ≤ vec_capacity c.push-reserved.new.self = search rules in
-    (∥∥₁_map old.sound (λ s. rw grown (accounts_push (accounts_of old) (account_entry account) s (search rules) fresh few)), (room, tt))
+    let room : 16 ≤ vec_capacity c.push_reserved.new.self = search rules in
+    record { sound = ∥∥₁_map old.sound (λ s. rw grown (accounts_push (accounts_of old) (account_entry account) s (search rules) fresh few)); room = room }
 
 pub returns : goal.returns
-returns c = search (rules, length-map, map_push account_entry (vec_items c.args.self.now.rows) c.in-ok-account.account)
+returns c = search (rules, length-map, map_push account_entry (vec_items c.args.self.now.rows) c.in_ok-account.account)

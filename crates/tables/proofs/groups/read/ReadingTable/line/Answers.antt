@@ -17,18 +17,18 @@ returns-then-len-ge16 c =
     let full : ltb (length (groups_read old)) 16 ≡ false = le-ltb _ _ many in
     search rules
 
-pub invariant-of-self : goal.invariant-of-self
-invariant-of-self c =
+pub invariant_of-self : goal.invariant_of-self
+invariant_of-self c =
     let old = c.args.self.now in
-    let group : Group = record { name = c.in-ok-head.head.name; number = c.in-ok-head.head.number; listed = c.in-ok-listed.listed } in
-    let grown : map group_entry (vec_items c.push-reserved.new.self) ≡ groups_read old ++ group_entry group ∷ [] = search (rules, map_push group_entry (vec_items old.rows) group) in
+    let group : Group = record { name = c.in_ok-head.head.name; number = c.in_ok-head.head.number; listed = c.in_ok-listed.listed } in
+    let grown : map group_entry (vec_items c.push_reserved.new.self) ≡ groups_read old ++ group_entry group ∷ [] = search (rules, map_push group_entry (vec_items old.rows) group) in
     let fresh : is_some (place_from (group_given (group_entry group).name (group_entry group).number) 0 (groups_read old)) ≡ false = search rules in
     let few : length (groups_read old) < 16 = search (rules, length-map) in
     let formed : GroupFormed (group_entry group) = search rules in
-    let room : 16 ≤ vec_capacity c.push-reserved.new.self = search rules in
-    (∥∥₁_map old.sound (λ s. rw grown (groups-push (groups_read old) (group_entry group) fresh s formed few)), (room, tt))
+    let room : 16 ≤ vec_capacity c.push_reserved.new.self = search rules in
+    record { sound = ∥∥₁_map old.sound (λ s. rw grown (groups-push (groups_read old) (group_entry group) fresh s formed few)); room = room }
 
 pub returns : goal.returns
 returns c =
-    let group : Group = record { name = c.in-ok-head.head.name; number = c.in-ok-head.head.number; listed = c.in-ok-listed.listed } in
+    let group : Group = record { name = c.in_ok-head.head.name; number = c.in_ok-head.head.number; listed = c.in_ok-listed.listed } in
     search (rules, length-map, map_push group_entry (vec_items c.args.self.now.rows) group)

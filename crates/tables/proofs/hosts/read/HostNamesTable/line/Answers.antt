@@ -14,15 +14,15 @@ returns-then-len-ge8 c =
     let full : ltb (length (hosts_of old)) 8 ≡ false = le-ltb _ _ many in
     search rules
 
-pub invariant-of-self : goal.invariant-of-self
-invariant-of-self c =
+pub invariant_of-self : goal.invariant_of-self
+invariant_of-self c =
     let old = c.args.self.now in
-    let host = c.in-ok-host.host in
-    let grown : map name_bytes (vec_items c.push-reserved.new.self) ≡ hosts_of old ++ name_bytes host ∷ [] = search (rules, map_push name_bytes (vec_items old.rows) host) in
+    let host = c.in_ok-host.host in
+    let grown : map name_bytes (vec_items c.push_reserved.new.self) ≡ hosts_of old ++ name_bytes host ∷ [] = search (rules, map_push name_bytes (vec_items old.rows) host) in
     let fresh : is_some (host_place (name_bytes host) (hosts_of old)) ≡ false = search rules in
     let few : length (hosts_of old) < 8 = search (rules, length-map) in
-    let room : 8 ≤ vec_capacity c.push-reserved.new.self = search rules in
-    (∥∥₁_map old.sound (λ s. rw grown (hosts_push (hosts_of old) (name_bytes host) s (search rules) fresh few)), (room, tt))
+    let room : 8 ≤ vec_capacity c.push_reserved.new.self = search rules in
+    record { sound = ∥∥₁_map old.sound (λ s. rw grown (hosts_push (hosts_of old) (name_bytes host) s (search rules) fresh few)); room = room }
 
 pub returns : goal.returns
-returns c = search (rules, length-map, map_push name_bytes (vec_items c.args.self.now.rows) c.in-ok-host.host)
+returns c = search (rules, length-map, map_push name_bytes (vec_items c.args.self.now.rows) c.in_ok-host.host)
