@@ -1,5 +1,5 @@
 -- The domain that was read has its form and a server, and there is one for each entry line. Assumes nothing.
-use Rattle.std.proofs.Common.{◌≡◌, ℕ, ◌+◌, ◌<◌, ◌≤◌, Bool, true, false, cond, not, ◌&&◌, List, [], ◌∷◌, length, is_some, IfSome, is_ok, Some, None, Ok, Err, codes, filter, Option, Result, sym, refl, arith}
+use Rattle.std.proofs.Common.{◌≡◌, ℕ, ◌+◌, ◌<◌, Bool, true, false, cond, not, ◌&&◌, List, [], ◌∷◌, length, is_some, IfSome, is_ok, Some, None, Ok, Err, codes, filter, Option, Result, refl, arith}
 use Rattle.std.specs.Option.{option_to_list}
 use Rattle.std.specs.Str.{bytes_eq}
 use Rattle.text.specs.Bytes.{name}
@@ -8,11 +8,11 @@ use Rattle.text.specs.Kept.{name_in}
 use Rattle.reading.specs.declared.fault.LineFault.{LineFault}
 use Rattle.reading.specs.declared.fault.Kind.TheVariants.{Ypconf}
 use Rattle.reading.specs.declared.fault.Refusal.TheVariants.{Fields, BadName, Unknown, Full, NotCovered}
-use Rattle.reading.specs.Reads.{wants, needs, and_then, value_or, passed_over, read_from, read_text}
+use Rattle.reading.specs.Reads.{wants, needs, and_then, value_or, passed_over, read_from}
 use Rattle.region.specs.Tables.{DomainEntry}
 use Rattle.tables.specs.HostsText.{host_named, host_place}
 use Rattle.tables.specs.Steps.{place_from, text_told, gives_entry, entry_lines}
-use Rattle.tables.proofs.Counts.{wants_ok, needs_ok, then_ok, read_lines, accepted, counted}
+use Rattle.tables.proofs.Counts.{wants_ok, needs_ok, then_ok, read_lines, counted}
 use Rattle.trust.specs.Formed.{DomainFormed}
 use Rattle.trust.specs.DomainText.{four_words, domain_line_in, domain_step, domain_in}
 

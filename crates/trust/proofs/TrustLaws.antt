@@ -1,5 +1,5 @@
 -- Trust lines that were read have their forms, and there is one for each entry line. Assumes nothing.
-use Rattle.std.proofs.Common.{◌≡◌, ℕ, zero, suc, ◌+◌, ◌≤◌, Bool, true, false, cond, List, [], ◌∷◌, map, length, is_ok, Some, None, Ok, vec_items, vec_len, filter, Option, refl, arith}
+use Rattle.std.proofs.Common.{◌≡◌, ℕ, zero, suc, ◌+◌, ◌≤◌, Bool, true, false, cond, List, [], ◌∷◌, map, length, is_ok, Some, None, Ok, filter, Option, refl, arith}
 use Rattle.std.specs.Option.{option_map}
 use Rattle.reading.specs.declared.fault.Kind.{Kind}
 use Rattle.reading.specs.Reads.{and_then, value_or, passed_over}

@@ -1,4 +1,6 @@
 // Whom a host trusts: the lines of hosts.equiv and of a .rhosts, and the domain of yp.conf.
+#![tactic(auto)]
+
 mod domain;
 mod lines;
 mod words;

@@ -13,7 +13,7 @@ pub returns : goal.returns
 returns c =
     let hosts = hosts_of c.args.hosts.now in
     let told : ◌≡◌ {A = Result (Unit {0}) TextFault} (Ok tt) (text_told Ypconf (domain_in hosts c.args.text.now)) = search rules in
-    let held : domain_of c.read-text-read.new.table.domain ≡ value_or None (domain_in hosts c.args.text.now) = search rules in
+    let held : domain_of c.read_text-read.new.table.domain ≡ value_or None (domain_in hosts c.args.text.now) = search rules in
     record {
       told = told;
       held = held;

@@ -15,4 +15,4 @@ pub returns : goal.returns
 returns g c =
     let few : length (trust_of c.args.self.now) < g.row.N = search (rules, length-map) in
     let room : ltb (length (trust_of c.args.self.now)) g.row.N ≡ true = lt-ltb _ _ few in
-    search (rules, map_push trust_entry (vec_items c.args.self.now.rows) c.in-ok-row.row)
+    search (rules, map_push trust_entry (vec_items c.args.self.now.rows) c.in_ok-row.row)
