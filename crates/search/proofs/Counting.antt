@@ -1,5 +1,5 @@
 -- Marks in a list, and how many are settled.
-use Rattle.std.proofs.Common.{◌≡◌, ℕ, zero, suc, ◌+◌, ◌<◌, ◌≤◌, Bool, true, false, cond, eqb, List, [], ◌∷◌, length, set, refl, ap, ◌∙◌, arith}
+use Rattle.std.proofs.Common.{◌≡◌, ℕ, zero, suc, ◌+◌, ◌<◌, ◌≤◌, Bool, true, false, cond, eqb, List, [], ◌∷◌, length, set, refl, ap, ◌∙◌, arith, length-set}
 use Rattle.std.proofs.lemmas.Bool.{ne_eqb}
 use Rattle.search.specs.Labels.{mark}
 use Rattle.search.specs.Trails.{settled}
@@ -28,4 +28,4 @@ settled_most [] = omega arith
 settled_most (m ∷ ms) = omega (arith, one_at_most (eqb m 2), settled_most ms)
 
 pub settled_less : (ms : List ℕ) (p : ℕ) → p < length ms → (mark ms p ≡ 2 → ⊥) → settled ms < length ms
-settled_less ms p lt nt = omega (arith, settled_more ms p lt nt, settled_most (set ms p 2), lib.ListN.length-set ms p 2)
+settled_less ms p lt nt = omega (arith, settled_more ms p lt nt, settled_most (set ms p 2), length-set ms p 2)

@@ -1,6 +1,6 @@
 -- Each step of the search keeps what it should.
 use Rattle.std.proofs.Common.{◌≡◌, ℕ, zero, suc, ◌<◌, ◌≤◌, Bool, true, false, cond, not, ◌&&◌, eqb, ◌⊎◌, List, [], ◌∷◌, length, set, replicate, Some, None, Option, sym, refl, ap, ◌∙◌, subst, inl, inr, arith, length-set, get_or-set_other, get_or-set_same}
-use lib.ListN.{length-replicate}
+use Rattle.std.proofs.lemmas.List.{length-replicate}
 use Rattle.std.proofs.lemmas.Bool.{cases_eq, cases_lt, both_ways, eqb-true, eqb-false, or_cases, or_parts, and_parts, and_cases, not-true, not-false}
 use Rattle.rules.specs.Rules.{Rules, Lawful}
 use Rattle.rules.specs.Measures.{Measures}

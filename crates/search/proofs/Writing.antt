@@ -1,5 +1,5 @@
 -- A plan is written one entry at a time.
-use Rattle.std.proofs.Common.{◌≡◌, ℕ, suc, ◌+◌, ◌<◌, List, [], ◌∷◌, ◌++◌, length, set, sym, refl, ap, ◌∙◌, subst, ap₂, append_assoc, append-nil, arith, length-append}
+use Rattle.std.proofs.Common.{◌≡◌, ℕ, suc, ◌+◌, ◌<◌, List, [], ◌∷◌, ◌++◌, length, set, sym, refl, ap, ◌∙◌, subst, ap₂, append_assoc, append-nil, arith, length-append, length-set}
 use Rattle.rules.specs.declared.weights.Label.{Label}
 use Rattle.search.specs.Labels.{label}
 use Rattle.search.specs.Lists.{overlay}
@@ -88,8 +88,8 @@ module _ {W : Type 0} (z : W) (ls : List (Label W)) where
     left = f.follows;
     at_is = refl;
     count = refl;
-    in_plan = omega (arith, f.in_plan, lib.ListN.length-set plan 0 p);
-    in_rules = omega (arith, f.in_rules, lib.ListN.length-set rules 0 0);
+    in_plan = omega (arith, f.in_plan, length-set plan 0 p);
+    in_rules = omega (arith, f.in_rules, length-set rules 0 0);
     in_count = omega (arith, f.in_count);
     plan_is = set_first p plan;
     rules_is = set_first 0 rules;

@@ -7,7 +7,7 @@ use rules::source::RuleSource;
 // Whether the question is well formed: the bytes of the held set first, then what is live.
 pub fn judge<S: RuleSource>(source: &S, held: &[u8], target: u16) -> Result<(), Refusal>
     requires { length held.now ≤ 8192 }
-    ensures { Judged (meaning source.now) held.now target result }
+    ensures { Judged (S.meaning source.now) held.now target result }
 {
     let mut dead = false;
     let mut p: u16 = 0;

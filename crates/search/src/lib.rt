@@ -1,4 +1,6 @@
 // The question: the least chain from a held privilege to a target, over any source and by any measure.
+#![tactic(auto)]
+
 pub mod answer;
 mod guard;
 mod judge;

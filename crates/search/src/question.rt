@@ -22,14 +22,14 @@ fn reply<S: RuleSource, W: Measure>(
     plan: &mut [u16],
     rules: &mut [u8],
 ) -> Result<Found<W>, Refusal>
-    requires held { length held.now ≡ (meaning source.now).count }
-    requires marks { length marks.old ≡ (meaning source.now).count }
-    requires labels { (meaning source.now).count ≤ length labels.old }
-    requires plan { (meaning source.now).count ≤ length plan.old }
-    requires rules { (meaning source.now).count ≤ length rules.old }
-    ensures cases { Answered zero added at_most (meaning source.now) held.now target plan.old plan.new rules.old rules.new result }
+    requires held { length held.now ≡ (S.meaning source.now).count }
+    requires marks { length marks.old ≡ (S.meaning source.now).count }
+    requires labels { (S.meaning source.now).count ≤ length labels.old }
+    requires plan { (S.meaning source.now).count ≤ length plan.old }
+    requires rules { (S.meaning source.now).count ≤ length rules.old }
+    ensures cases { Answered W.zero W.added W.at_most (S.meaning source.now) held.now target plan.old plan.new rules.old rules.new result }
     ensures marks { marks.new ≡ replicate (length marks.old) 0 }
-    ensures past { (k : ℕ) (d : Label W) → (meaning source.now).count ≤ k → slice_index_or labels.new k d ≡ slice_index_or labels.old k d }
+    ensures past { (k : ℕ) (d : Label W) → (S.meaning source.now).count ≤ k → slice_index_or labels.new k d ≡ slice_index_or labels.old k d }
 {
     let guard = Marks { cells: &mut *marks };
     judge(source, held, target)?;
@@ -53,7 +53,7 @@ pub fn ask<S: RuleSource, W: Measure>(
     plan: &mut [u16],
     rules: &mut [u8],
 ) -> Result<Found<W>, Refusal>
-    ensures { Asked zero added at_most (meaning source.now) (Grants (meaning source.now)) (GrantsFirst (meaning source.now)) held.now target marks.old marks.new labels.old labels.new plan.old plan.new rules.old rules.new result }
+    ensures { Asked W.zero W.added W.at_most (S.meaning source.now) (Grants (S.meaning source.now)) (GrantsFirst (S.meaning source.now)) held.now target marks.old marks.new labels.old labels.new plan.old plan.new rules.old rules.new result }
 {
     let n = source.count() as usize;
     if held.len() < n || marks.len() < n || labels.len() < n || plan.len() < n || rules.len() < n {

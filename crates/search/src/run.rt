@@ -15,7 +15,7 @@ pub fn begin<W: Measure>(target: u16, marks: &mut [u8], labels: &mut [Label<W>])
     requires marked { target < length marks.old }
     requires labelled { target < length labels.old }
     ensures marks { marks.new ≡ slice_set (replicate (length marks.old) 0) target 1 }
-    ensures labels { labels.new ≡ slice_set labels.old target (record { weight = zero; next = target; rule = 0 }) }
+    ensures labels { labels.new ≡ slice_set labels.old target (record { weight = W.zero; next = target; rule = 0 }) }
 {
     clear(marks);
     marks[target as usize] = 1;
@@ -41,10 +41,10 @@ pub fn run<S: RuleSource, W: Measure>(
     marks: &mut [u8],
     labels: &mut [Label<W>],
 ) -> Option<u16>
-    requires held { length held.now ≡ (meaning source.now).count }
-    requires begun { Kept zero added at_most (meaning source.now) (HeldIn held.now) target labels.old All (marks.old, labels.old) }
-    ensures cases { MatchOption result (Chainless (meaning source.now) (Grants (meaning source.now)) held.now target) (λ q. Arrived zero added at_most (meaning source.now) (HeldIn held.now) target (marks.new, labels.new) q) }
-    ensures past { (k : ℕ) (d : Label W) → (meaning source.now).count ≤ k → slice_index_or labels.new k d ≡ slice_index_or labels.old k d }
+    requires held { length held.now ≡ (S.meaning source.now).count }
+    requires begun { Kept W.zero W.added W.at_most (S.meaning source.now) (HeldIn held.now) target labels.old All (marks.old, labels.old) }
+    ensures cases { MatchOption result (Chainless (S.meaning source.now) (Grants (S.meaning source.now)) held.now target) (λ q. Arrived W.zero W.added W.at_most (S.meaning source.now) (HeldIn held.now) target (marks.new, labels.new) q) }
+    ensures past { (k : ℕ) (d : Label W) → (S.meaning source.now).count ≤ k → slice_index_or labels.new k d ≡ slice_index_or labels.old k d }
 {
     while let Some(q) = select(marks, labels) {
         if is_held(held, q) {

@@ -10,7 +10,7 @@ use rules::weights::Label;
 pub fn select<W: Measure>(marks: &[u8], labels: &[Label<W>]) -> Option<u16>
     requires within { length marks.now ≤ length labels.now }
     requires few { length marks.now ≤ 65536 }
-    ensures { Selected zero at_most marks.now labels.now (length marks.now) result }
+    ensures { Selected W.zero W.at_most marks.now labels.now (length marks.now) result }
 {
     let mut best: Option<u16> = None;
     for i in 0..marks.len() {
@@ -31,7 +31,7 @@ pub fn select<W: Measure>(marks: &[u8], labels: &[Label<W>]) -> Option<u16>
 fn gains<W: Measure>(marks: &[u8], labels: &[Label<W>], p: usize, label: &Label<W>) -> bool
     requires marked { p < length marks.now }
     requires labelled { p < length labels.now }
-    ensures { result ≡ better zero at_most marks.now labels.now p label.now }
+    ensures { result ≡ better W.zero W.at_most marks.now labels.now p label.now }
 {
     match marks[p] {
         0 => true,
@@ -44,7 +44,7 @@ fn gains<W: Measure>(marks: &[u8], labels: &[Label<W>], p: usize, label: &Label<
 fn improve<W: Measure>(marks: &mut [u8], labels: &mut [Label<W>], p: usize, label: Label<W>)
     requires marked { p < length marks.old }
     requires labelled { p < length labels.old }
-    ensures { (marks.new, labels.new) ≡ improved zero at_most (marks.old, labels.old) p label }
+    ensures { (marks.new, labels.new) ≡ improved W.zero W.at_most (marks.old, labels.old) p label }
 {
     if gains(marks, labels, p, &label) {
         marks[p] = 1;
@@ -61,8 +61,8 @@ fn label_by<S: RuleSource, W: Measure>(
     base: W,
     rule: u8,
 ) -> Label<W>
-    requires { near ≡ (meaning source.now).place q }
-    ensures { result ≡ record { weight = added base (crosses (meaning source.now) p q); next = q; rule = rule } }
+    requires { near ≡ (S.meaning source.now).place q }
+    ensures { result ≡ record { weight = W.added base (crosses (S.meaning source.now) p q); next = q; rule = rule } }
 {
     Label {
         weight: base.add(source.place(p) != near),
@@ -79,9 +79,9 @@ pub fn relax<S: RuleSource, W: Measure>(
     labels: &mut [Label<W>],
 )
     requires inside { q < length labels.old }
-    requires marked { (meaning source.now).count ≤ length marks.old }
-    requires labelled { (meaning source.now).count ≤ length labels.old }
-    ensures { (marks.new, labels.new) ≡ relaxed zero added at_most (meaning source.now) q (label_at zero labels.old q).weight (meaning source.now).width (marks.old, labels.old) }
+    requires marked { (S.meaning source.now).count ≤ length marks.old }
+    requires labelled { (S.meaning source.now).count ≤ length labels.old }
+    ensures { (marks.new, labels.new) ≡ relaxed W.zero W.added W.at_most (S.meaning source.now) q (label_at W.zero labels.old q).weight (S.meaning source.now).width (marks.old, labels.old) }
 {
     let near = source.place(q);
     let base = labels[q as usize].weight;

@@ -8,7 +8,7 @@ use rules::weights::Label;
 // The privilege that comes after p, and the rule by which it is granted.
 fn step_at<W: Measure>(labels: &[Label<W>], p: u16) -> (u16, u8)
     requires { p < length labels.now }
-    ensures { result ≡ ((label_at zero labels.now p).next, (label_at zero labels.now p).rule) }
+    ensures { result ≡ ((label_at W.zero labels.now p).next, (label_at W.zero labels.now p).rule) }
 {
     (labels[p as usize].next, labels[p as usize].rule)
 }
@@ -21,8 +21,8 @@ pub fn write_plan<W: Measure>(
     plan: &mut [u16],
     rules: &mut [u8],
 ) -> u16
-    requires { Fitting zero labels.now target from plan.old rules.old }
-    ensures { Done zero labels.now target from result plan.old plan.new rules.old rules.new }
+    requires { Fitting W.zero labels.now target from plan.old rules.old }
+    ensures { Done W.zero labels.now target from result plan.old plan.new rules.old rules.new }
 {
     plan[0] = from;
     rules[0] = 0;
@@ -41,7 +41,7 @@ pub fn write_plan<W: Measure>(
 // The weight from p to the target.
 pub fn weight_at<W: Measure>(labels: &[Label<W>], p: u16) -> W
     requires { p < length labels.now }
-    ensures { result ≡ (label_at zero labels.now p).weight }
+    ensures { result ≡ (label_at W.zero labels.now p).weight }
 {
     labels[p as usize].weight
 }

@@ -23,10 +23,10 @@ fn question<S: RuleSource, W: Measure>(
     labels: &mut [Label<W>],
     memory: PlanMemory,
 ) -> Result<Plan<W>, Unanswered>
-    requires marks { (S.RuleSource.meaning (source_of trial.now)).count ≤ length marks.old }
-    requires labels { (S.RuleSource.meaning (source_of trial.now)).count ≤ length labels.old }
-    requires memory { Wide (S.RuleSource.meaning (source_of trial.now)).count memory }
-    ensures { (l : Ledger) → Stands (S.RuleSource.meaning (source_of trial.now)) (lists_of trial.now) l → Says W.Measure.zero W.Measure.added W.Measure.at_most (S.RuleSource.meaning (source_of trial.now)) l held.now target result }
+    requires marks { (S.meaning (source_of trial.now)).count ≤ length marks.old }
+    requires labels { (S.meaning (source_of trial.now)).count ≤ length labels.old }
+    requires memory { Wide (S.meaning (source_of trial.now)).count memory }
+    ensures { (l : Ledger) → Stands (S.meaning (source_of trial.now)) (lists_of trial.now) l → Says W.zero W.added W.at_most (S.meaning (source_of trial.now)) l held.now target result }
 {
     let PlanMemory {
         mut plan,
@@ -51,10 +51,10 @@ fn reply<S: RuleSource, W: Measure>(
     labels: &mut [Label<W>],
     memory: PlanMemory,
 ) -> Reply<W>
-    requires marks { (S.RuleSource.meaning (source_of trial.old)).count ≤ length marks.old }
-    requires labels { (S.RuleSource.meaning (source_of trial.old)).count ≤ length labels.old }
-    requires memory { Wide (S.RuleSource.meaning (source_of trial.old)).count memory }
-    ensures replied { (l : Ledger) → Stands (S.RuleSource.meaning (source_of trial.old)) (lists_of trial.old) l → Replied W.Measure.zero W.Measure.added W.Measure.at_most (S.RuleSource.meaning (source_of trial.old)) l call.now result × Stands (S.RuleSource.meaning (source_of trial.old)) (lists_of trial.new) (onward (S.RuleSource.meaning (source_of trial.old)) l call.now) }
+    requires marks { (S.meaning (source_of trial.old)).count ≤ length marks.old }
+    requires labels { (S.meaning (source_of trial.old)).count ≤ length labels.old }
+    requires memory { Wide (S.meaning (source_of trial.old)).count memory }
+    ensures replied { (l : Ledger) → Stands (S.meaning (source_of trial.old)) (lists_of trial.old) l → Replied W.zero W.added W.at_most (S.meaning (source_of trial.old)) l call.now result × Stands (S.meaning (source_of trial.old)) (lists_of trial.new) (onward (S.meaning (source_of trial.old)) l call.now) }
     ensures same { source_of trial.new ≡ source_of trial.old }
 {
     match call {
@@ -74,13 +74,13 @@ fn carry<S: RuleSource, W: Measure>(
     plans: Vec<PlanMemory>,
     replies: Vec<Reply<W>>,
 ) -> Vec<Reply<W>>
-    requires marks { (S.RuleSource.meaning (source_of trial.old)).count ≤ length marks.old }
-    requires labels { (S.RuleSource.meaning (source_of trial.old)).count ≤ length labels.old }
-    requires wide { AllWide (S.RuleSource.meaning (source_of trial.old)).count plans.items }
+    requires marks { (S.meaning (source_of trial.old)).count ≤ length marks.old }
+    requires labels { (S.meaning (source_of trial.old)).count ≤ length labels.old }
+    requires wide { AllWide (S.meaning (source_of trial.old)).count plans.items }
     requires plans { length calls.now ≤ vec_len plans }
     requires room { length calls.now ≤ vec_capacity replies }
     requires none { replies.items ≡ [] }
-    ensures ran { (l : Ledger) → Stands (S.RuleSource.meaning (source_of trial.old)) (lists_of trial.old) l → Ran W.Measure.zero W.Measure.added W.Measure.at_most (S.RuleSource.meaning (source_of trial.old)) l calls.now result.items }
+    ensures ran { (l : Ledger) → Stands (S.meaning (source_of trial.old)) (lists_of trial.old) l → Ran W.zero W.added W.at_most (S.meaning (source_of trial.old)) l calls.now result.items }
     ensures same { source_of trial.new ≡ source_of trial.old }
 {
     let mut plans = plans;
@@ -126,7 +126,7 @@ impl<S: RuleSource, W: Measure> Prepared<S, W> {
     pub fn new(heap: Global, source: S, many: usize) -> Result<Prepared<S, W>, AllocError>
     where
         S: Drop,
-        ensures { IfOk result (λ d. (source_under d ≡ source) × Ready (S.RuleSource.meaning source) many d) }
+        ensures { IfOk result (λ d. (source_under d ≡ source) × Ready (S.meaning source) many d) }
     {
         let n = source.count() as usize;
         let marks = vec![in heap; 0u8; n]?;
@@ -145,8 +145,8 @@ impl<S: RuleSource, W: Measure> Prepared<S, W> {
 
     // Runs the calls, one after another, and gives what each is replied. It takes nothing from the heap, so it cannot fail.
     pub fn run(self, calls: &[Call]) -> Finished<S, W>
-        requires { Ready (S.RuleSource.meaning (source_under self)) (length calls.now) self }
-        ensures ran { Ran W.Measure.zero W.Measure.added W.Measure.at_most (S.RuleSource.meaning (source_under self)) empty calls.now result.replies.items }
+        requires { Ready (S.meaning (source_under self)) (length calls.now) self }
+        ensures ran { Ran W.zero W.added W.at_most (S.meaning (source_under self)) empty calls.now result.replies.items }
         ensures same { source_of result.trial ≡ source_under self }
     {
         let Prepared {

@@ -28,7 +28,7 @@ impl<S: RuleSource> Trial<S> {
     pub fn bare(heap: Global, source: S) -> Result<Trial<S>, AllocError>
     where
         S: Drop,
-        ensures { IfOk result (λ t. (source_of t ≡ source) × Stands (S.RuleSource.meaning source) (lists_of t) empty) }
+        ensures { IfOk result (λ t. (source_of t ≡ source) × Stands (S.meaning source) (lists_of t) empty) }
     {
         let assumed = Assumed::new(heap, source)?;
         let tables = Barred::new(heap, assumed)?;
@@ -37,8 +37,8 @@ impl<S: RuleSource> Trial<S> {
 
     // From now on p is assumed to grant g.
     pub fn assume(&mut self, p: u16, g: u16) -> Result<(), Refusal>
-        ensures agrees { Carries (S.RuleSource.meaning (source_of self.old)) (lists_of self.old) (lists_of self.new) (Assume p g) result }
-        ensures lists { lists_of self.new ≡ list_next (S.RuleSource.meaning (source_of self.old)) (lists_of self.old) (Assume p g) }
+        ensures agrees { Carries (S.meaning (source_of self.old)) (lists_of self.old) (lists_of self.new) (Assume p g) result }
+        ensures lists { lists_of self.new ≡ list_next (S.meaning (source_of self.old)) (lists_of self.old) (Assume p g) }
         ensures same { source_of self.new ≡ source_of self.old }
     {
         self.change(Change::Assume(p, g))
@@ -46,8 +46,8 @@ impl<S: RuleSource> Trial<S> {
 
     // From now on p is not assumed to grant g.
     pub fn withdraw(&mut self, p: u16, g: u16) -> Result<(), Refusal>
-        ensures agrees { Carries (S.RuleSource.meaning (source_of self.old)) (lists_of self.old) (lists_of self.new) (Withdraw p g) result }
-        ensures lists { lists_of self.new ≡ list_next (S.RuleSource.meaning (source_of self.old)) (lists_of self.old) (Withdraw p g) }
+        ensures agrees { Carries (S.meaning (source_of self.old)) (lists_of self.old) (lists_of self.new) (Withdraw p g) result }
+        ensures lists { lists_of self.new ≡ list_next (S.meaning (source_of self.old)) (lists_of self.old) (Withdraw p g) }
         ensures same { source_of self.new ≡ source_of self.old }
     {
         self.change(Change::Withdraw(p, g))
@@ -55,8 +55,8 @@ impl<S: RuleSource> Trial<S> {
 
     // From now on p is barred.
     pub fn bar(&mut self, p: u16) -> Result<(), Refusal>
-        ensures agrees { Carries (S.RuleSource.meaning (source_of self.old)) (lists_of self.old) (lists_of self.new) (Bar p) result }
-        ensures lists { lists_of self.new ≡ list_next (S.RuleSource.meaning (source_of self.old)) (lists_of self.old) (Bar p) }
+        ensures agrees { Carries (S.meaning (source_of self.old)) (lists_of self.old) (lists_of self.new) (Bar p) result }
+        ensures lists { lists_of self.new ≡ list_next (S.meaning (source_of self.old)) (lists_of self.old) (Bar p) }
         ensures same { source_of self.new ≡ source_of self.old }
     {
         self.change(Change::Bar(p))
@@ -64,8 +64,8 @@ impl<S: RuleSource> Trial<S> {
 
     // From now on p is not barred.
     pub fn lift(&mut self, p: u16) -> Result<(), Refusal>
-        ensures agrees { Carries (S.RuleSource.meaning (source_of self.old)) (lists_of self.old) (lists_of self.new) (Lift p) result }
-        ensures lists { lists_of self.new ≡ list_next (S.RuleSource.meaning (source_of self.old)) (lists_of self.old) (Lift p) }
+        ensures agrees { Carries (S.meaning (source_of self.old)) (lists_of self.old) (lists_of self.new) (Lift p) result }
+        ensures lists { lists_of self.new ≡ list_next (S.meaning (source_of self.old)) (lists_of self.old) (Lift p) }
         ensures same { source_of self.new ≡ source_of self.old }
     {
         self.change(Change::Lift(p))
@@ -73,8 +73,8 @@ impl<S: RuleSource> Trial<S> {
 
     // Any of the four.
     pub fn change(&mut self, change: Change) -> Result<(), Refusal>
-        ensures agrees { Carries (S.RuleSource.meaning (source_of self.old)) (lists_of self.old) (lists_of self.new) change result }
-        ensures lists { lists_of self.new ≡ list_next (S.RuleSource.meaning (source_of self.old)) (lists_of self.old) change }
+        ensures agrees { Carries (S.meaning (source_of self.old)) (lists_of self.old) (lists_of self.new) change result }
+        ensures lists { lists_of self.new ≡ list_next (S.meaning (source_of self.old)) (lists_of self.old) change }
         ensures same { source_of self.new ≡ source_of self.old }
     {
         self.enter(change)
@@ -82,8 +82,8 @@ impl<S: RuleSource> Trial<S> {
 
     // What a change does to the two lists.
     fn enter(&mut self, change: Change) -> Result<(), Refusal>
-        ensures answer { result ≡ list_verdict (S.RuleSource.meaning (source_of self.old)) (lists_of self.old) change }
-        ensures after { lists_of self.new ≡ list_next (S.RuleSource.meaning (source_of self.old)) (lists_of self.old) change }
+        ensures answer { result ≡ list_verdict (S.meaning (source_of self.old)) (lists_of self.old) change }
+        ensures after { lists_of self.new ≡ list_next (S.meaning (source_of self.old)) (lists_of self.old) change }
         ensures same { source_of self.new ≡ source_of self.old }
     {
         match change {
@@ -104,7 +104,7 @@ impl<S: RuleSource> Trial<S> {
         plan: &mut [u16],
         rules: &mut [u8],
     ) -> Result<Found<W>, Unanswered>
-        ensures { (l : Ledger) → Stands (S.RuleSource.meaning (source_of self.now)) (lists_of self.now) l → Asked W.Measure.zero W.Measure.added W.Measure.at_most (S.RuleSource.meaning (source_of self.now)) (LedgerGrants (S.RuleSource.meaning (source_of self.now)) l) (LedgerRule (S.RuleSource.meaning (source_of self.now)) l) held.now target marks.old marks.new labels.old labels.new plan.old plan.new rules.old rules.new result }
+        ensures { (l : Ledger) → Stands (S.meaning (source_of self.now)) (lists_of self.now) l → Asked W.zero W.added W.at_most (S.meaning (source_of self.now)) (LedgerGrants (S.meaning (source_of self.now)) l) (LedgerRule (S.meaning (source_of self.now)) l) held.now target marks.old marks.new labels.old labels.new plan.old plan.new rules.old rules.new result }
     {
         search::question::ask(&self.tables, held, target, marks, labels, plan, rules)
     }

@@ -4,13 +4,13 @@ use Rattle.search.proofs.Turning.{relaxed-next}
 use Rattle.search.specs.Labels.{relaxed, improved, blank}
 use Rattle.search.proofs.turn.relax.Goals as goal
 
-pub loop-k-preserved-in-default : goal.loop-k-preserved-in-default
-loop-k-preserved-in-default g c =
+pub loop-k-preserved-in_default : goal.loop-k-preserved-in_default
+loop-k-preserved-in_default g c =
     let m = g.W.Measure in
     let base = (get_or c.args.labels.now c.args.q c.index-labels-q.result).weight in
     relaxed-next m.zero m.added m.at_most (g.S.RuleSource.meaning c.args.source.now) c.args.q base c.loop-k.k
     (c.args.marks.now, c.args.labels.now) (c.loop-k.marks, c.loop-k.labels) (c.loop-k.marks, c.loop-k.labels)
-    None (sym c.slot.ensures ∙ c.in-default.is) c.loop-k.invariant refl
+    None (sym c.slot.ensures ∙ c.in_default.is) c.loop-k.invariant refl
 
 pub improve-requires : goal.improve-requires
 improve-requires g c =
@@ -28,7 +28,7 @@ loop-k-preserved g c =
     relaxed-next m.zero m.added m.at_most R q base c.loop-k.k
     (c.args.marks.now, c.args.labels.now) (c.loop-k.marks, c.loop-k.labels) (c.improve.new.marks, c.improve.new.labels)
     (Some (p, c.in-Some.rule)) (sym c.slot.ensures ∙ c.in-Some.is) c.loop-k.invariant
-    (c.improve.ensures ∙ ap (improved m.zero m.at_most (c.loop-k.marks, c.loop-k.labels) p) c.label-by-label.ensures)
+    (c.improve.ensures ∙ ap (improved m.zero m.at_most (c.loop-k.marks, c.loop-k.labels) p) c.label_by-label.ensures)
 
 pub returns : goal.returns
 returns g c =

@@ -1,4 +1,4 @@
-use Rattle.std.proofs.Common.{◌≡◌, ◌+◌, ◌++◌, length, get_or, vec_items, sym, ap, ◌∙◌, subst, arith}
+use Rattle.std.proofs.Common.{◌≡◌, ◌++◌, length, get_or, vec_items, sym, ap, ◌∙◌, subst, arith}
 use Rattle.std.specs.Option.{option_to_list}
 use Rattle.rules.specs.Rules.{Rules}
 use Rattle.trial.specs.Runs.{Replied, onward}
@@ -37,7 +37,7 @@ loop-call-preserved g c =
       omega (arith, c.pop.ensures.len, ap (λ o. length (option_to_list o)) c.unwrap-memory.ensures),
       omega arith,
       omega arith,
-      λ l st. run_more m.zero m.added m.at_most R l c.args.calls.now (lists_of c.loop-call.trial) (lists_of c.reply-said.new.trial) c.loop-call.call-index (vec_items c.loop-call.replies) (vec_items c.push-reserved.new.self) d c.reply-said.result c.loop-call-test.true c.push-reserved.ensures.items one (inv.5 l st),
+      λ l st. run_more m.zero m.added m.at_most R l c.args.calls.now (lists_of c.loop-call.trial) (lists_of c.reply-said.new.trial) c.loop-call.call-index (vec_items c.loop-call.replies) (vec_items c.push_reserved.new.self) d c.reply-said.result c.loop-call-test.true c.push_reserved.ensures.items one (inv.5 l st),
     )
 
 pub returns : goal.returns

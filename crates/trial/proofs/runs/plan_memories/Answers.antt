@@ -5,10 +5,10 @@ use Rattle.trial.proofs.runs.plan_memories.Goals as goal
 
 pub loop-preserved : goal.loop-preserved
 loop-preserved c =
-    let p = c.in-ok-plan.plan in
-    let r = c.in-ok-rules.rules in
+    let p = c.in_ok-plan.plan in
+    let r = c.in_ok-rules.rules in
     let wide : Wide c.args.n (record { plan = p; rules = r }) = record {
-      for_plan = omega (arith, c.in-ok-plan.ensures.len, p.ok.0);
-      for_rules = omega (arith, c.in-ok-rules.ensures.len, r.ok.0);
+      for_plan = omega (arith, c.in_ok-plan.ensures.len, p.ok.0);
+      for_rules = omega (arith, c.in_ok-rules.ensures.len, r.ok.0);
     } in
-    (subst (AllWide c.args.n) (sym c.push-reserved.ensures.items) (wide_push c.args.n (vec_items c.loop.all) (record { plan = p; rules = r }) c.loop.invariant.0 wide), omega arith, omega arith)
+    (subst (AllWide c.args.n) (sym c.push_reserved.ensures.items) (wide_push c.args.n (vec_items c.loop.all) (record { plan = p; rules = r }) c.loop.invariant.0 wide), omega arith, omega arith)
