@@ -1,4 +1,6 @@
 // Layers over any rule source: grants that are assumed, and privileges that are barred.
+#![tactic(auto)]
+
 pub mod assumed;
 pub mod barred;
 mod forms;

@@ -1,7 +1,6 @@
 -- The cells of a matrix: where a pair stands, and what a write to one cell leaves.
-use Rattle.std.proofs.Common.{◌≡◌, ℕ, zero, suc, ◌+◌, ◌*◌, ◌/◌, ◌%◌, ◌<◌, Bool, true, false, cond, ◌&&◌, eqb, ltb, ◌≢◌, List, length, get_or, set, replicate, sym, refl, ap, ◌∙◌, ap₂, ⊎_elim, arith, get_or-set_other, get_or-set_same}
+use Rattle.std.proofs.Common.{◌≡◌, ℕ, ◌+◌, ◌*◌, ◌/◌, ◌%◌, ◌<◌, Bool, true, false, cond, ◌&&◌, eqb, ltb, ◌≢◌, List, length, get_or, set, sym, ap, ◌∙◌, ap₂, ⊎_elim, arith, get_or-set_other, get_or-set_same}
 use Rattle.std.proofs.lemmas.Bool.{ltb-true, eqb-true, eq-eqb, and_parts, and_from, and_left, cond-true, cond-false, cases_Bool, both_ways}
-use Rattle.std.proofs.lemmas.List.{get_or_default}
 use Rattle.std.proofs.lemmas.Nat.{mul-add-lt, div-mul-add, mod-mul-add}
 
 -- whether p grants g, by the cells
@@ -39,20 +38,3 @@ put_reads n xs p g b many ok q h =
     (cases_Bool (ltb q n && ltb h n))
     ∙ sym (cond-false (eqb q p && eqb h g) b (read n xs q h) off))
     (cases_Bool (eqb q p && eqb h g))
-
--- no cell of a new matrix holds a grant
-pub blank_reads : (n k : ℕ) (xs : List Bool) → xs ≡ replicate k false → (p g : ℕ) → read n xs p g ≡ false
-blank_reads n k xs e p g = ap (λ v. (ltb p n && ltb g n) && v) (ap (λ l. get_or l (g * n + p) false) e ∙ blank k (g * n + p)) ∙ and_false (ltb p n && ltb g n)
-  where
-    blank : (k i : ℕ) → get_or (replicate k false) i false ≡ false
-    blank zero i = refl
-    blank (suc k) zero = refl
-    blank (suc k) (suc i) = blank k i
-
-    and_false : (b : Bool) → (b && false) ≡ false
-    and_false true = refl
-    and_false false = refl
-
--- what stands in the cell of a pair is whether one grants the other
-pub cell_reads : (n : ℕ) (xs : List Bool) (p g : ℕ) (v : Bool) → length xs ≡ n * n → (ltb p n && ltb g n) ≡ true → v ≡ get_or xs (g * n + p) v → v ≡ read n xs p g
-cell_reads n xs p g v many ok is = is ∙ get_or_default xs (g * n + p) v false (omega (arith, cell_within n p g ok)) ∙ ap (λ b. b && get_or xs (g * n + p) false) (sym ok)

@@ -1,7 +1,7 @@
 -- The forms of operations are well formed, and no two are alike.
 use Rattle.std.specs.Prelude.{◌≡◌, ℕ, ◌+◌, ◌%◌, ◌^◌, ◌<◌, ◌≤◌, Bool, true, false, cond, List, [], ◌∷◌, ◌++◌, length, drop, codes, decimal, nat_lt, refl}
 use Rattle.std.proofs.Common.{sym, ap, subst, ◌∙◌, arith, lit≤, length-append}
-use Rattle.std.specs.List.{AllByRecursion as All}
+use Rattle.std.specs.List.{AllByRecursion}
 use Rattle.std.proofs.ByRecursion.{All-append}
 use Rattle.std.proofs.lemmas.Nat.{mod_below}
 use Rattle.std.proofs.lemmas.Bool.{ltb-true, lt-ltb, cond-true, cond-false}
@@ -15,9 +15,9 @@ use Rattle.matrix.specs.Forms.{operation_form}
 abbrev printed : ℕ → List ℕ
 printed p = codes "Operation " ++ decimal p
 
-digits_printable : (n : ℕ) → n < 2 ^ 64 → All Printable (decimal n)
+digits_printable : (n : ℕ) → n < 2 ^ 64 → AllByRecursion Printable (decimal n)
 digits_printable n h =
-    decimal_by_steps (λ m ds. All Printable ds)
+    decimal_by_steps (λ m ds. AllByRecursion Printable ds)
     (λ m lt. ((omega arith, omega arith), tt))
     (λ m ds le all. All-append Printable ds ((48 + m % 10) ∷ []) all ((omega arith, omega (arith, mod_below m 10 (omega arith))), tt))
     n h
@@ -40,7 +40,7 @@ operations_named m = record {
   at_most_128_bytes = λ p. by_live (λ l. length l ≤ 128) (nat_lt p m.count) (printed p)
       (λ h. omega (arith, length-append (codes "Operation ") (decimal p), few_bytes p (below p h)))
       (omega arith);
-  printable = λ p. by_live (All Printable) (nat_lt p m.count) (printed p)
+  printable = λ p. by_live (AllByRecursion Printable) (nat_lt p m.count) (printed p)
       (λ h. let small = below p h in All-append Printable (codes "Operation ") (decimal p) word-printable (digits_printable p (omega arith)))
       tt;
   never_alike = λ p q live also e.
@@ -55,7 +55,7 @@ operations_named m = record {
     live-form : (p : ℕ) → nat_lt p m.count ≡ true → operation_form m p ≡ printed p
     live-form p h = cond-true (nat_lt p m.count) (printed p) [] h
 
-    word-printable : All Printable (codes "Operation ")
+    word-printable : AllByRecursion Printable (codes "Operation ")
     word-printable = ((lit≤ tt, lit≤ tt), ((lit≤ tt, lit≤ tt), ((lit≤ tt, lit≤ tt), ((lit≤ tt, lit≤ tt), ((lit≤ tt, lit≤ tt), ((lit≤ tt, lit≤ tt), ((lit≤ tt, lit≤ tt), ((lit≤ tt, lit≤ tt), ((lit≤ tt, lit≤ tt), ((lit≤ tt, lit≤ tt), tt))))))))))
 
 -- the form written at the start of the memory

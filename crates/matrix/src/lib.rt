@@ -1,4 +1,6 @@
 // The operation grant matrix: which of a number of operations grants which.
+#![tactic(auto)]
+
 mod forms;
 mod grants;
 pub mod refusal;

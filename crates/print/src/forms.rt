@@ -8,7 +8,7 @@ use rules::source::RuleSource;
 
 // Whether p is live and prints the line.
 fn prints<S: Named>(source: &S, p: u16, line: &[u8]) -> bool
-    ensures { result ≡ (S.RuleSource.meaning source.now).live p && bytes_eq (form source.now p) line.now }
+    ensures { result ≡ (S.RuleSource.meaning source.now).live p && bytes_eq (S.form source.now p) line.now }
 {
     if !source.live(p) {
         return false;
@@ -20,7 +20,7 @@ fn prints<S: Named>(source: &S, p: u16, line: &[u8]) -> bool
 
 // The live privilege that prints the line, if one does.
 pub fn privilege_of<S: Named>(source: &S, line: &[u8]) -> Option<u16>
-    ensures { PrintedBy (S.RuleSource.meaning source.now) (form source.now) line.now result }
+    ensures { PrintedBy (S.RuleSource.meaning source.now) (S.form source.now) line.now result }
 {
     for p in 0..source.count() {
         if prints(source, p, line) {

@@ -1,4 +1,6 @@
 // The bytes of every line that a program prints.
+#![tactic(auto)]
+
 mod forms;
 mod lines;
 mod numbers;

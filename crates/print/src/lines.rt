@@ -9,7 +9,7 @@ use rules::named::Named;
 
 // The line of a plan that names the privilege p as its number k.
 pub fn plan_line<S: Named>(source: &S, k: u32, p: u16) -> ArrayVec<u8, 160>
-    ensures { items_of result ≡ plan_line k (form source.now p) }
+    ensures { items_of result ≡ plan_line k (S.form source.now p) }
 {
     let mut memory = [0u8; 128];
     let length = source.print(p, &mut memory);
