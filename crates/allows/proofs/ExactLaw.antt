@@ -10,7 +10,7 @@ use Rattle.allows.specs.Slots.{Slot}
 use Rattle.allows.specs.Source.{ruled_slot, if_live, site_slot, site_rules}
 use Rattle.allows.proofs.AllowedSlots.{allowed-slot}
 use Rattle.allows.proofs.Bounds.{live-fits}
-use Rattle.allows.proofs.Numbers.{Fits, slots, ruled_is, privilege_of, live_decides, placed, apart}
+use Rattle.allows.proofs.Numbers.{Fits, ruled_is, privilege_of, live_decides, placed, apart}
 use Rattle.allows.proofs.Places.{nothing, only}
 use Rattle.allows.proofs.SlotsAllowed.{slot-allowed}
 

@@ -18,7 +18,7 @@ use Rattle.allows.specs.Slots.{Slot, grant, row_of, by_number, by_home_file, by_
 use Rattle.allows.specs.Trust.{trusting_rule, by_rhosts}
 use Rattle.allows.proofs.Bounds.{host_sound, host-fits, account-fits, group-fits, row_fits, fixed-row, fixed-alone}
 use Rattle.allows.proofs.Numbers.{Fits, slots, has_decides}
-use Rattle.allows.proofs.Places.{nothing, split, only, via, place_in}
+use Rattle.allows.proofs.Places.{split, only, via, place_in}
 use Rattle.allows.proofs.Tests.{home-in, belongs_decides, equiv_decides, rhosts-decides}
 
 -- a privilege that is numbered p grants y by rule u

@@ -1,4 +1,6 @@
 // What a site allows, over its tables.
+#![tactic(auto)]
+
 mod exact;
 
 pub use exact::{allowed_exactly, hub_slots};

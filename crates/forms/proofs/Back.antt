@@ -5,7 +5,6 @@ use Rattle.std.specs.List.{slice_get}
 use Rattle.std.specs.Str.{bytes_eq}
 use Rattle.std.proofs.lemmas.Slice.Eq.{bytes_eq-Decides}
 use Rattle.std.proofs.lemmas.Bool.{or_parts}
-use Rattle.text.specs.Bytes.{name}
 use Rattle.region.specs.Sound.{Entry, Distinct, OwnName, HostSound, Sound}
 use Rattle.region.specs.Tables.{AccountEntry, GroupEntry, FileEntry, HostTables}
 use Rattle.region.specs.declared.privilege.Right.{Right}

@@ -1,6 +1,6 @@
 -- How many bytes a form has, and that they can be printed. Assumes nothing.
 use Rattle.std.proofs.Common.{◌≡◌, ℕ, ◌+◌, ◌≤◌, List, ◌∷◌, ◌++◌, length, codes, decimal, refl, ap, ◌∙◌, arith}
-use Rattle.std.specs.List.{AllByRecursion as All}
+use Rattle.std.specs.List.{AllByRecursion}
 use Rattle.std.proofs.lemmas.Fmt.{length-decimal-le}
 use Rattle.std.proofs.ByRecursion.{All-append}
 use Rattle.std.proofs.lemmas.List.{length-append}
@@ -12,7 +12,7 @@ use Rattle.forms.proofs.Visible.{Solid, solid_decimal, printable, printable_piec
 pub record Proper (form : List ℕ) : Type 0 where
   pub some : 1 ≤ length form
   pub short : length form ≤ 128
-  pub clean : All Printable form
+  pub clean : AllByRecursion Printable form
 
 length-text_at_host : (n h : List ℕ) → length (text_at_host n h) ≡ length n + (4 + length h)
 length-text_at_host n h = length-append n (32 ∷ 97 ∷ 116 ∷ 32 ∷ h) ∙ ap (λ k. length n + k) (omega arith)
@@ -21,7 +21,7 @@ numbered_length : (u : ℕ) (n h : List ℕ) → length (numbered_at u n h) ≡ 
 numbered_length u n h = length-append (decimal u) (32 ∷ 40 ∷ (n ++ 41 ∷ 32 ∷ 97 ∷ 116 ∷ 32 ∷ h)) ∙ omega (arith, length-append n (41 ∷ 32 ∷ 97 ∷ 116 ∷ 32 ∷ h))
 
 module _ (n h : List ℕ) (solid-n : Solid n) (solid-h : Solid h) (short-h : length h ≤ 31) where
-  clean_text_at_host : All Printable (text_at_host n h)
+  clean_text_at_host : AllByRecursion Printable (text_at_host n h)
   clean_text_at_host = All-append Printable n (codes " at " ++ h) (printable n solid-n) (All-append Printable (codes " at ") h (printable_piece (codes " at ") refl) (printable h solid-h))
 
   pub name-proper : length n ≤ 31 → Proper (name_form n h)
@@ -37,7 +37,7 @@ module _ (n h : List ℕ) (solid-n : Solid n) (solid-h : Solid h) (short-h : len
     digits : length (decimal u) ≤ 10
     digits = length-decimal-le 10 u (omega arith) (omega arith) (omega arith)
 
-    numbered-clean : All Printable (numbered_at u n h)
+    numbered-clean : AllByRecursion Printable (numbered_at u n h)
     numbered-clean = All-append Printable (decimal u) (codes " (" ++ (n ++ (codes ") at " ++ h))) (printable (decimal u) (solid_decimal u (omega arith)))
         (All-append Printable (codes " (") (n ++ (codes ") at " ++ h)) (printable_piece (codes " (") refl)
         (All-append Printable n (codes ") at " ++ h) (printable n solid-n) (All-append Printable (codes ") at ") h (printable_piece (codes ") at ") refl) (printable h solid-h))))

@@ -1,6 +1,6 @@
 -- The forms of a site are well named. Assumes nothing.
 use Rattle.std.proofs.Common.{◌≡◌, ℕ, ◌≤◌, true, false, cond, eqb, List, [], length, codes, sym, refl, ap, ◌∙◌, subst, ⊎_elim, arith}
-use Rattle.std.specs.List.{slice_get, AllByRecursion as All}
+use Rattle.std.specs.List.{slice_get, AllByRecursion}
 use Rattle.std.proofs.lemmas.Bool.{cond-true, cond-false, cases_Bool}
 use Rattle.rules.specs.Names.{Printable, WellNamed}
 use Rattle.text.proofs.Wholes.{name-short, path-short}
@@ -90,7 +90,7 @@ module _ (hs : List HostTables) (sound : Sound hs) where
     live_has_a_form = λ p e. (live-proper p e).some;
     dead_has_none = dead;
     at_most_128_bytes = either (λ bs. length bs ≤ 128) (omega arith) (λ bs k. k.short);
-    printable = either (λ bs. All Printable bs) tt (λ bs k. k.clean);
+    printable = either (λ bs. AllByRecursion Printable bs) tt (λ bs k. k.clean);
     never_alike = λ p q l m e.
         let x = live-form p l in
         let y = live-form q m in

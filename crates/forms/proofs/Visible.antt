@@ -1,6 +1,6 @@
 -- The bytes of names, paths and numbers can be seen, and those of forms can be printed. Assumes nothing.
 use Rattle.std.proofs.Common.{◌≡◌, ℕ, ◌+◌, ◌%◌, ◌^◌, ◌<◌, ◌≤◌, Bool, true, false, cond, not, ◌&&◌, eqb, leb, List, [], ◌∷◌, length, codes, decimal, sym, refl, ap, ◌∙◌, ⊎_elim, arith}
-use Rattle.std.specs.List.{AllByRecursion as All}
+use Rattle.std.specs.List.{AllByRecursion}
 use Rattle.std.proofs.lemmas.Fmt.{decimal_by_steps}
 use Rattle.std.proofs.ByRecursion.{All-append, All-weaker}
 use Rattle.std.proofs.lemmas.Slice.Eq.{bytes_eq-Decides}
@@ -16,7 +16,7 @@ abbrev pub Visible : ℕ → Type 0
 Visible b = (33 ≤ b) × (b ≤ 126)
 
 abbrev pub Solid : List ℕ → Type 0
-Solid bs = All Visible bs
+Solid bs = AllByRecursion Visible bs
 
 within_range : (a z b : ℕ) → within a z b ≡ true → (a ≤ b) × (b ≤ z)
 within_range a z b e = let h = and_parts (leb a b) (leb b z) e in (leb-true a b h.0, leb-true b z h.1)
@@ -74,10 +74,10 @@ solid_path bs e = ⊎_elim
 pub solid_decimal : (n : ℕ) → n < 2 ^ 64 → Solid (decimal n)
 solid_decimal n h = decimal_by_steps (λ _ ds. Solid ds) (λ m lt. ((omega arith, omega arith), tt)) (λ m ds big e. All-append Visible ds ((48 + m % 10) ∷ []) e ((omega arith, omega arith), tt)) n h
 
-pub printable : (bs : List ℕ) → Solid bs → All Printable bs
+pub printable : (bs : List ℕ) → Solid bs → AllByRecursion Printable bs
 printable bs s = All-weaker Visible Printable (λ b v. (omega arith, omega arith)) bs s
 
 -- fixed pieces of a form, looked through by computing
-pub printable_piece : (bs : List ℕ) → all (within 32 126) bs ≡ true → All Printable bs
+pub printable_piece : (bs : List ℕ) → all (within 32 126) bs ≡ true → AllByRecursion Printable bs
 printable_piece [] e = tt
 printable_piece (b ∷ bs) e = let h = and_parts (within 32 126 b) (all (within 32 126) bs) e in (within_range 32 126 b h.0, printable_piece bs h.1)

@@ -1,4 +1,6 @@
 // What the privileges of a site print.
+#![tactic(auto)]
+
 mod printed;
 mod write;
 

@@ -1,4 +1,3 @@
-use Rattle.std.proofs.Common.{rules}
 use Rattle.bounded.proofs.Clips.{clip}
 use Rattle.print.proofs.Short.{fresh}
 use Rattle.forms.proofs.Written.{placed_short}
