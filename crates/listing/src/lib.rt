@@ -1,4 +1,6 @@
 // The listing of a host's files, in the layout of mtree(5), and the table of its file rows.
+#![tactic(auto)]
+
 mod entry;
 mod files;
 mod row;

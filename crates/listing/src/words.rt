@@ -1,5 +1,6 @@
 // The words of a line of a listing, each with its place.
 ghost use Rattle.std.specs.Prelude.{◌≡◌, ◌+◌, ◌^◌, ◌<◌, length};
+ghost use Rattle.std.specs.Iterator.{at_most};
 ghost use Rattle.std.specs.Option.{option_map};
 ghost use Rattle.listing.specs.Words.{dotted, piece_of, seen_word, WordSteps};
 
@@ -70,9 +71,7 @@ impl<'a> Iterator for Words<'a> {
 
     ghost next_gives = { λ s r t. WordSteps s r t };
 
-    ghost ends = { λ s. s.place + length s.rest.now < 2 ^ 64 };
-
-    ghost remaining = { λ s. length s.rest.now };
+    ghost remaining = { λ s. at_most (length s.rest.now) };
 
     fn next(&mut self) -> Option<Placed<'a>> {
         let (w, rest) = next_word(self.rest)?;

@@ -3,9 +3,9 @@ use Rattle.listing.specs.Rows.{file_entry}
 use Rattle.listing.proofs.Tables.{Kept, absent_kept, absent-few}
 use Rattle.listing.proofs.files.Files.clear.Goals as goal
 
-pub invariant-of-self : goal.invariant-of-self
-invariant-of-self c =
+pub invariant_of-self : goal.invariant_of-self
+invariant_of-self c =
     let v = c.reset.new.rows in
     let kept : Kept (map file_entry (vec_items v)) = subst Kept (sym c.reset.ensures.rows) absent_kept in
     let few : vec_len v ≤ 64 = absent-few v c.reset.ensures.rows in
-    (few, (c.reset.ensures.room, (kept.fixed, (kept.once, (kept.parents, (kept.under, tt))))))
+    record { few = few; room = c.reset.ensures.room; fixed = kept.fixed; once = kept.once; parents = kept.parents; under = kept.under }

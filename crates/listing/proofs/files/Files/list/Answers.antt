@@ -8,5 +8,5 @@ use Rattle.listing.proofs.files.Files.list.Goals as goal
 pub put-requires : goal.put-requires
 put-requires c =
     let xs = files_of c.args.self.now in
-    let row : FileRow = record { path = c.args.row.path; above = c.in-ok-above.above; stat = Some c.args.row.stat } in
-    above-fits xs c.args.self.now.fixed c.args.n (file_entry row) (c.in-ok-above.ensures ∙ ap (above_of c.args.n xs) c.as-slice.ensures)
+    let row : FileRow = record { path = c.args.row.path; above = c.in_ok-above.above; stat = Some c.args.row.stat } in
+    above-fits xs c.args.self.now.fixed c.args.n (file_entry row) (c.in_ok-above.ensures ∙ ap (above_of c.args.n xs) c.as_slice.ensures)

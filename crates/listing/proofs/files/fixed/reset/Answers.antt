@@ -5,4 +5,4 @@ use Rattle.listing.proofs.files.fixed.reset.Goals as goal
 
 pub loop-row-preserved : goal.loop-row-preserved
 loop-row-preserved c =
-    search (rules, map_more absent fixed_rows c.loop-row.row ([], 0), map_push file_entry (vec_items c.loop-row.rows) c.absent-row.result)
+    search (rules, map_more absent fixed_rows c.loop-row.row ([], 0), map_push file_entry (vec_items c.loop-row.rows) c.absent_row.result)
