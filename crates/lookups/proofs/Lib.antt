@@ -1,3 +1,2 @@
 mod Parts
 mod Scans
-pub mod Seen

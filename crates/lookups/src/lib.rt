@@ -1,4 +1,6 @@
 // Looking things up in the rows of a host's tables. A place is given by its number, which a table of at most 255 rows leaves room for.
+#![tactic(auto)]
+
 mod accounts;
 mod bytes;
 mod groups;

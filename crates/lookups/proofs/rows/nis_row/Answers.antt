@@ -7,8 +7,8 @@ use Rattle.listing.specs.Rows.{file_entry}
 use Rattle.lookups.proofs.Scans.{place_here, place-later, place-nowhere}
 use Rattle.lookups.proofs.rows.nis_row.Goals as goal
 
-pub returns-then-is-nis-map : goal.returns-then-is-nis-map
-returns-then-is-nis-map c = let here = place_here file_entry (λ (x : FileEntry). bytes_eq x.path (nis_map (name_bytes c.args.domain.now) c.args.file.now)) in search (rules, here)
+pub returns-then-is_nis_map : goal.returns-then-is_nis_map
+returns-then-is_nis_map c = let here = place_here file_entry (λ (x : FileEntry). bytes_eq x.path (nis_map (name_bytes c.args.domain.now) c.args.file.now)) in search (rules, here)
 
 pub loop-i-preserved : goal.loop-i-preserved
 loop-i-preserved c = let later = place-later file_entry (λ (x : FileEntry). bytes_eq x.path (nis_map (name_bytes c.args.domain.now) c.args.file.now)) in search (rules, later)
