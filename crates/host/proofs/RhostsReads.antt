@@ -1,5 +1,5 @@
 -- The .rhosts of an account is read in its turn. Assumes nothing.
-use Rattle.std.proofs.Common.{◌≡◌, ℕ, ◌<◌, Bool, true, false, cond, not, ◌&&◌, leb, List, [], length, get_or, set, is_ok, Ok, Err, Result, sym, refl, ap, ◌∙◌, arith}
+use Rattle.std.proofs.Common.{◌≡◌, ℕ, ◌<◌, Bool, true, false, cond, not, ◌&&◌, leb, List, [], length, get_or, is_ok, Ok, Err, refl, ap, ◌∙◌, arith}
 use Rattle.std.proofs.lemmas.Bool.{lt-ltb}
 use Rattle.reading.specs.declared.fault.Kind.TheVariants.{Rhosts}
 use Rattle.reading.specs.declared.fault.TextFault.{TextFault}

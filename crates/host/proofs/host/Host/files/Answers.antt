@@ -7,5 +7,5 @@ use Rattle.host.proofs.host.Host.files.Goals as goal
 
 pub returns : goal.returns
 returns c =
-    let many : length c.as-slice.result.now ≡ length (host_tables c.args.self.now).files = sym (length-map c.as-slice.result.now file_entry) ∙ ap length c.as-slice.ensures in
-    record { entries = c.as-slice.ensures; count = many; few = omega (arith, (files_sound c.args.self.now.files).few) }
+    let many : length c.as_slice.result.now ≡ length (host_tables c.args.self.now).files = sym (length-map c.as_slice.result.now file_entry) ∙ ap length c.as_slice.ensures in
+    record { entries = c.as_slice.ensures; count = many; few = omega (arith, (files_sound c.args.self.now.files).few) }

@@ -7,5 +7,5 @@ use Rattle.host.proofs.host.Host.groups.Goals as goal
 
 pub returns : goal.returns
 returns c =
-    let many : length c.as-slice.result.now ≡ length (host_tables c.args.self.now).groups = sym (length-map c.as-slice.result.now group_entry) ∙ ap length c.as-slice.ensures in
-    record { entries = c.as-slice.ensures; count = many; few = omega (arith, (groups_sound c.args.self.now.groups).few) }
+    let many : length c.as_slice.result.now ≡ length (host_tables c.args.self.now).groups = sym (length-map c.as_slice.result.now group_entry) ∙ ap length c.as_slice.ensures in
+    record { entries = c.as_slice.ensures; count = many; few = omega (arith, (groups_sound c.args.self.now.groups).few) }

@@ -1,4 +1,4 @@
-use Rattle.std.proofs.Common.{◌≡◌, ◌<◌, map, length, set, vec_items, ap, ◌∙◌, arith}
+use Rattle.std.proofs.Common.{◌<◌, map, length, set, vec_items, ap, ◌∙◌, arith}
 use Rattle.std.proofs.lemmas.List.{map-set}
 use Rattle.host.specs.Tables.{host_tables, lines_of}
 use Rattle.host.proofs.RhostsReads.{told-rhosts, held-rhosts, put_same}
@@ -10,9 +10,9 @@ returns c =
     let i = c.args.account in
     let xs = vec_items c.args.self.now.rhosts in
     let y = c.read.new.self in
-    let there : i < length t.accounts = omega (arith, c.account-count.ensures.value) in
-    let told = told-rhosts t i c.args.text.now c.has-rhosts.result c.has-rhosts.ensures _ c.in-ok-in-turn.ensures there in
-    let held = held-rhosts t i c.args.text.now c.has-rhosts.result c.has-rhosts.ensures _ c.in-ok-in-turn.ensures there in
+    let there : i < length t.accounts = omega (arith, c.account_count.ensures.value) in
+    let told = told-rhosts t i c.args.text.now c.has_rhosts.result c.has_rhosts.ensures _ c.in_ok-in_turn.ensures there in
+    let held = held-rhosts t i c.args.text.now c.has_rhosts.result c.has_rhosts.ensures _ c.in_ok-in_turn.ensures there in
     record {
       told = c.read.ensures.told ∙ told;
       held =

@@ -1,4 +1,4 @@
-use Rattle.std.proofs.Common.{◌≡◌, ◌<◌, ◌≤◌, [], length, vec_items, sym, ◌∙◌, arith}
+use Rattle.std.proofs.Common.{◌<◌, ◌≤◌, [], length, vec_items, sym, ◌∙◌, arith}
 use Rattle.host.specs.Tables.{lines_of}
 use Rattle.host.proofs.Scans.{entry-or, past-entries}
 use Rattle.host.proofs.host.Host.rhosts.Goals as goal
