@@ -1,4 +1,6 @@
 // What the slots of a site's privileges hold, by the rules.
+#![tactic(auto)]
+
 mod entries;
 mod files;
 mod fixed;
