@@ -1,4 +1,6 @@
 // Asks one question of a bare trial over a named source, and prints the answer.
+#![tactic(auto)]
+
 mod asked;
 mod lines;
 

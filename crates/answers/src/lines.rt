@@ -1,5 +1,5 @@
 // A question as its two lines say it.
-ghost use Rattle.std.specs.Prelude.{◌≡◌, ◌<◌, set, replicate, IfOk, slice_set};
+ghost use Rattle.std.specs.Prelude.{◌≡◌, ◌<◌, replicate, IfOk, slice_set};
 ghost use Rattle.answers.specs.Questions.{NamedByLines};
 
 use print::privilege_of;
@@ -9,7 +9,7 @@ use text::next_line;
 
 // Start and goal: the live privileges that the first two lines print, or none where one of them is missing or printed by none.
 pub fn start_and_goal<S: Named>(source: &S, question: &[u8]) -> Option<(u16, u16)>
-    ensures { NamedByLines (S.RuleSource.meaning source.now) (form source.now) question.now result }
+    ensures { NamedByLines (S.RuleSource.meaning source.now) (S.form source.now) question.now result }
 {
     let (first, rest) = next_line(question)?;
     let (second, _) = next_line(rest)?;

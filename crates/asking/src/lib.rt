@@ -1,4 +1,6 @@
 // One table of questions over small matrices, and what each is answered.
+#![tactic(auto)]
+
 #[cfg(test)]
 mod tests {
     use matrix::Matrix;

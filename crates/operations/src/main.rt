@@ -1,4 +1,6 @@
 // Five operations of one host, what each of them grants, and one question answered from beginning to end.
+#![tactic(auto)]
+
 use anyhow::anyhow;
 use matrix::Matrix;
 use rules::measure::Measure;
