@@ -1,4 +1,6 @@
 // What the privileges of hosts print.
+#![tactic(auto)]
+
 mod hosts;
 mod rights;
 
