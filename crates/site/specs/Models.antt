@@ -1,5 +1,5 @@
 -- A site as plain records, and what its calls make of it. Assumes nothing.
-use Rattle.std.specs.Prelude.{ℕ, zero, suc, Bool, true, false, cond, not, List, [], ◌∷◌, map, take, is_ok, Some, None, Ok, Err, vec_items, Option, Result}
+use Rattle.std.specs.Prelude.{ℕ, zero, suc, Bool, false, cond, not, List, [], ◌∷◌, map, take, is_ok, Some, None, Ok, Err, vec_items, Option, Result}
 use Rattle.std.specs.List.{slice_get}
 use Rattle.reading.specs.declared.fault.Kind.{Kind}
 use Rattle.reading.specs.declared.fault.Kind.TheVariants.{Hosts}

@@ -1,4 +1,6 @@
 // A site: the hosts of a region. An open site takes texts; a closed one, which wants no text more, answers questions.
+#![tactic(auto)]
+
 mod close;
 mod closed;
 mod first;

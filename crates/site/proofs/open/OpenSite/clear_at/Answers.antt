@@ -1,4 +1,4 @@
-use Rattle.std.proofs.Common.{◌≡◌, Ok, Err, sym, ap, ◌∙◌, arith}
+use Rattle.std.proofs.Common.{Ok, Err, sym, ap, ◌∙◌, arith}
 use Rattle.reading.specs.declared.fault.Kind.TheVariants.{Hosts}
 use Rattle.site.specs.Models.{cleared}
 use Rattle.site.proofs.Edits.{answer-gone, after-gone, answer-there, after-there, names-there}
@@ -12,19 +12,19 @@ returns-then-host-self c =
       held = after-gone s c.args.host c.if-host-self.true cleared;
     }
 
-pub index-mut-requires : goal.index-mut-requires
-index-mut-requires c = omega (arith, c.if-host-self.false, c.args.self.now.within, c.args.self.now.«eight»)
+pub index_mut-requires : goal.index_mut-requires
+index_mut-requires c = omega (arith, c.if-host-self.false, c.args.self.now.within, c.args.self.now.«eight»)
 
-pub invariant-of-self : goal.invariant-of-self
-invariant-of-self c =
+pub invariant_of-self : goal.invariant_of-self
+invariant_of-self c =
     let s = c.args.self.now in
-    let named = names-there s c.args.host c.if-host-self.false _ c.index-mut.ensures.value c.clear.new.self (ap (λ t. t.name) c.clear.ensures) in
-    (s.«eight», (s.within, (named, tt)))
+    let named = names-there s c.args.host c.if-host-self.false _ c.index_mut.ensures.value c.clear.new.self (ap (λ t. t.name) c.clear.ensures) in
+    record { eight = s.«eight»; within = s.within; named = named }
 
 pub returns : goal.returns
 returns c =
     let s = c.args.self.now in
     record {
-      told = sym (answer-there s c.args.host c.if-host-self.false _ c.index-mut.ensures.value Hosts (λ _. Ok tt));
-      held = after-there s c.args.host c.if-host-self.false _ c.index-mut.ensures.value cleared _ c.clear.ensures;
+      told = sym (answer-there s c.args.host c.if-host-self.false _ c.index_mut.ensures.value Hosts (λ _. Ok tt));
+      held = after-there s c.args.host c.if-host-self.false _ c.index_mut.ensures.value cleared _ c.clear.ensures;
     }

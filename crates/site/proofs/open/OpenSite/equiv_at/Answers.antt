@@ -1,4 +1,4 @@
-use Rattle.std.proofs.Common.{◌≡◌, Err, sym, ap, ◌∙◌, arith}
+use Rattle.std.proofs.Common.{Err, sym, ap, ◌∙◌, arith}
 use Rattle.reading.specs.declared.fault.Kind.TheVariants.{Equiv}
 use Rattle.host.specs.Tables.{host_tables}
 use Rattle.host.specs.Reads.{equiv_answer, equiv_after}
@@ -14,20 +14,20 @@ returns-then-host-self c =
       held = after-gone s c.args.host c.if-host-self.true (λ t. equiv_after t c.args.text.now);
     }
 
-pub index-mut-requires : goal.index-mut-requires
-index-mut-requires c = omega (arith, c.if-host-self.false, c.args.self.now.within, c.args.self.now.«eight»)
+pub index_mut-requires : goal.index_mut-requires
+index_mut-requires c = omega (arith, c.if-host-self.false, c.args.self.now.within, c.args.self.now.«eight»)
 
-pub invariant-of-self : goal.invariant-of-self
-invariant-of-self c =
+pub invariant_of-self : goal.invariant_of-self
+invariant_of-self c =
     let s = c.args.self.now in
-    let kept = ap (λ t. t.name) c.read-equiv.ensures.held ∙ equiv-kept (host_tables c.index-mut.result.now) c.args.text.now in
-    let named = names-there s c.args.host c.if-host-self.false _ c.index-mut.ensures.value c.read-equiv.new.self kept in
-    (s.«eight», (s.within, (named, tt)))
+    let kept = ap (λ t. t.name) c.read_equiv.ensures.held ∙ equiv-kept (host_tables c.index_mut.result.now) c.args.text.now in
+    let named = names-there s c.args.host c.if-host-self.false _ c.index_mut.ensures.value c.read_equiv.new.self kept in
+    record { eight = s.«eight»; within = s.within; named = named }
 
 pub returns : goal.returns
 returns c =
     let s = c.args.self.now in
     record {
-      told = c.read-equiv.ensures.told ∙ sym (answer-there s c.args.host c.if-host-self.false _ c.index-mut.ensures.value Equiv (λ t. equiv_answer t c.args.text.now));
-      held = after-there s c.args.host c.if-host-self.false _ c.index-mut.ensures.value (λ t. equiv_after t c.args.text.now) _ c.read-equiv.ensures.held;
+      told = c.read_equiv.ensures.told ∙ sym (answer-there s c.args.host c.if-host-self.false _ c.index_mut.ensures.value Equiv (λ t. equiv_answer t c.args.text.now));
+      held = after-there s c.args.host c.if-host-self.false _ c.index_mut.ensures.value (λ t. equiv_after t c.args.text.now) _ c.read_equiv.ensures.held;
     }

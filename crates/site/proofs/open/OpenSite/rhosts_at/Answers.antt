@@ -1,4 +1,4 @@
-use Rattle.std.proofs.Common.{◌≡◌, Err, sym, ap, ◌∙◌, arith}
+use Rattle.std.proofs.Common.{Err, sym, ap, ◌∙◌, arith}
 use Rattle.reading.specs.declared.fault.Kind.TheVariants.{Rhosts}
 use Rattle.host.specs.Tables.{host_tables}
 use Rattle.host.specs.Reads.{rhosts_answer, rhosts_after}
@@ -14,20 +14,20 @@ returns-then-host-self c =
       held = after-gone s c.args.host c.if-host-self.true (λ t. rhosts_after c.args.account t c.args.text.now);
     }
 
-pub index-mut-requires : goal.index-mut-requires
-index-mut-requires c = omega (arith, c.if-host-self.false, c.args.self.now.within, c.args.self.now.«eight»)
+pub index_mut-requires : goal.index_mut-requires
+index_mut-requires c = omega (arith, c.if-host-self.false, c.args.self.now.within, c.args.self.now.«eight»)
 
-pub invariant-of-self : goal.invariant-of-self
-invariant-of-self c =
+pub invariant_of-self : goal.invariant_of-self
+invariant_of-self c =
     let s = c.args.self.now in
-    let kept = ap (λ t. t.name) c.read-rhosts.ensures.held ∙ rhosts-kept (host_tables c.index-mut.result.now) c.args.text.now c.args.account in
-    let named = names-there s c.args.host c.if-host-self.false _ c.index-mut.ensures.value c.read-rhosts.new.self kept in
-    (s.«eight», (s.within, (named, tt)))
+    let kept = ap (λ t. t.name) c.read_rhosts.ensures.held ∙ rhosts-kept (host_tables c.index_mut.result.now) c.args.text.now c.args.account in
+    let named = names-there s c.args.host c.if-host-self.false _ c.index_mut.ensures.value c.read_rhosts.new.self kept in
+    record { eight = s.«eight»; within = s.within; named = named }
 
 pub returns : goal.returns
 returns c =
     let s = c.args.self.now in
     record {
-      told = c.read-rhosts.ensures.told ∙ sym (answer-there s c.args.host c.if-host-self.false _ c.index-mut.ensures.value Rhosts (λ t. rhosts_answer c.args.account t c.args.text.now));
-      held = after-there s c.args.host c.if-host-self.false _ c.index-mut.ensures.value (λ t. rhosts_after c.args.account t c.args.text.now) _ c.read-rhosts.ensures.held;
+      told = c.read_rhosts.ensures.told ∙ sym (answer-there s c.args.host c.if-host-self.false _ c.index_mut.ensures.value Rhosts (λ t. rhosts_answer c.args.account t c.args.text.now));
+      held = after-there s c.args.host c.if-host-self.false _ c.index_mut.ensures.value (λ t. rhosts_after c.args.account t c.args.text.now) _ c.read_rhosts.ensures.held;
     }
