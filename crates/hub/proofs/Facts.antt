@@ -1,12 +1,10 @@
 -- The facts of the hub, by computing; and the two about questions, from what every question promises. Assumes nothing.
-use Rattle.std.proofs.Common.{◌≡◌, ℕ, ◌<◌, Bool, true, cond, ltb, List, [], ◌∷◌, length, take, Ok, sym, refl, ap, ◌∙◌, arith}
+use Rattle.std.proofs.Common.{◌≡◌, ℕ, true, List, [], ◌∷◌, length, refl, ap, ◌∙◌}
 use Rattle.rules.specs.Chains.{Grants, LeadsBy, ChainBy}
 use Rattle.rules.specs.Weights.{crossings_added, stop, crossed_steps}
 use Rattle.rules.specs.declared.weights.Crossings.{Crossings}
-use Rattle.rules.specs.declared.weights.Steps.{Steps}
-use Rattle.search.specs.Questions.{Asked, NoneHeld, HeldIn}
-use Rattle.search.specs.declared.answer.Found.{Found}
-use Rattle.hub.specs.Hub.{Question, HeldBy, HeldTarget, NothingHeld}
+use Rattle.search.specs.Questions.{NoneHeld}
+use Rattle.hub.specs.Hub.{HeldBy, HeldTarget, NothingHeld}
 
 -- a way of a step or more ends at the last of its privileges: where none of them is held, its end is not
 end_not_held : (step : ℕ → ℕ → ℕ → Type 0) (held : ℕ → Type 0) (p q : ℕ) (qs : List ℕ) (t : ℕ) → LeadsBy step p (q ∷ qs) t → NoneHeld held (q ∷ qs) → held t → ⊥
@@ -17,8 +15,8 @@ no_step : (step : ℕ → ℕ → ℕ → Type 0) (held : ℕ → Type 0) (p : �
 no_step step held p [] t l n h = refl
 no_step step held p (q ∷ qs) t l n h = absurd (end_not_held step held p q qs t l n h)
 
-pub held-target : HeldTarget
-held-target q f e h =
+pub held_target : HeldTarget
+held_target q f e h =
     let a = q.asked.planned_or_left in
     let p = (rw e at a).2 in
     p.is_a_least_plan.steps_are_the_plans ∙ no_step (Grants q.source) (HeldBy q) p.first p.rest q.target p.is_a_least_plan.plan_is_a_chain.2 p.is_a_least_plan.none_but_the_first_held h

@@ -1,5 +1,7 @@
 // Reads many texts, each into tables of its own, and prints what was kept or by which number it was refused. The texts are the examples of the
 // manual pages and texts at the edges of every limit; `cases` has each as a line with its kind, its name and the length of its text, and then the text.
+#![tactic(auto)]
+
 mod rows;
 
 use listing::{Files, read_files};
