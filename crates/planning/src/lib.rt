@@ -1,4 +1,6 @@
 // What `plan` does: reads a region's folder, closes the site, asks the question, and prints the answer or the first refusal.
+#![tactic(auto)]
+
 use answers::answer;
 use anyhow::anyhow;
 use folder::{Stopped, read_region};
