@@ -1,4 +1,6 @@
 // Answers the questions of three regions: a chain across three hosts, one through a .rhosts, and one region without a chain.
+#![tactic(auto)]
+
 use planning::answer_folder;
 use std::{fs, io};
 

@@ -1,5 +1,7 @@
 // Tries changes on a region: reads its folder and a script of assume, withdraw, bar, lift and ask, and prints what each call did.
 // Arguments: the folder (else the current one), and `crossings` for the measure that counts crossings first (else steps).
+#![tactic(auto)]
+
 use anyhow::anyhow;
 use planning::closed_site;
 use rules::weights::{Crossings, Steps};
