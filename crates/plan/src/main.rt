@@ -2,7 +2,8 @@
 #![tactic(auto)]
 
 use planning::run;
+use std::process::ExitCode;
 
-fn main(rt: HostRuntime) -> anyhow::Result<()> {
+fn main(rt: HostRuntime) -> anyhow::Result<ExitCode> {
     run(&rt)
 }

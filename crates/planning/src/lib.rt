@@ -2,13 +2,13 @@
 #![tactic(auto)]
 
 use answers::answer;
-use anyhow::anyhow;
 use folder::{Stopped, read_region};
 use print::refusal_line;
 use reading::SiteFault;
 use rules::weights::Steps;
 use site::{ClosedSite, try_close};
 use std::io::Read;
+use std::process::ExitCode;
 use std::{env, io};
 
 // Prints where a text was refused.
@@ -65,13 +65,13 @@ pub fn answer_folder(rt: &HostRuntime, folder: &str, question: &[u8]) -> io::Res
     }
 }
 
-// Runs the program; an error where the question was refused, so that the status tells.
-pub fn run(rt: &HostRuntime) -> anyhow::Result<()> {
+// Runs the program; the status tells an answer from a refusal.
+pub fn run(rt: &HostRuntime) -> anyhow::Result<ExitCode> {
     let folder = folder_of(rt)?;
     let question = question(rt)?;
     if answer_folder(rt, folder.as_str(), question.as_slice())? {
-        Ok(())
+        Ok(ExitCode::SUCCESS)
     } else {
-        Err(anyhow!("refused"))
+        Ok(ExitCode::FAILURE)
     }
 }

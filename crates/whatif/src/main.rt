@@ -2,11 +2,11 @@
 // Arguments: the folder (else the current one), and `crossings` for the measure that counts crossings first (else steps).
 #![tactic(auto)]
 
-use anyhow::anyhow;
 use planning::closed_site;
 use rules::weights::{Crossings, Steps};
 use site::ClosedSite;
 use std::io::Read;
+use std::process::ExitCode;
 use std::{env, io};
 use trying::play;
 
@@ -36,10 +36,10 @@ fn script(rt: &HostRuntime) -> io::Result<Vec<u8>> {
     Ok(bytes)
 }
 
-fn run(rt: &HostRuntime) -> anyhow::Result<()> {
+fn run(rt: &HostRuntime) -> anyhow::Result<ExitCode> {
     let chosen = read_arguments(rt)?;
     let Some(site) = closed_site(rt, chosen.folder.as_str())? else {
-        return Err(anyhow!("refused"));
+        return Ok(ExitCode::FAILURE);
     };
     let script = script(rt)?;
     if chosen.crossings {
@@ -47,9 +47,9 @@ fn run(rt: &HostRuntime) -> anyhow::Result<()> {
     } else {
         play::<ClosedSite, Steps>(rt, site, script.as_slice())?;
     }
-    Ok(())
+    Ok(ExitCode::SUCCESS)
 }
 
-fn main(rt: HostRuntime) -> anyhow::Result<()> {
+fn main(rt: HostRuntime) -> anyhow::Result<ExitCode> {
     run(&rt)
 }
