@@ -99,6 +99,6 @@ pub nothing_unread : (ts : List HostTables) → is_ok (checked ts) ≡ true → 
 nothing_unread [] ok = clash ok
 nothing_unread (t ∷ ts) ok = each_read 0 (t ∷ ts) ok
 
-pub some-host : (ts : List HostTables) → is_ok (checked ts) ≡ true → 0 < length ts
-some-host [] ok = clash ok
-some-host (t ∷ ts) ok = omega arith
+pub some_host : (ts : List HostTables) → is_ok (checked ts) ≡ true → 0 < length ts
+some_host [] ok = clash ok
+some_host (t ∷ ts) ok = omega arith

@@ -17,6 +17,6 @@ pub record AllRead (t : HostTables) : Type 0 where
 -- What closing gives: the same site, which has a host and all that its hosts want, and whose slots hold what the rules allow.
 pub record Closes (before after : SiteModel) : Type 0 where
   pub same : after ≡ before
-  pub some-host : 0 < length after.hosts
+  pub some_host : 0 < length after.hosts
   pub nothing_unread : Each AllRead after.hosts
   pub exact : Exact after.hosts

@@ -1,5 +1,5 @@
 // Reads yp.conf: at most one line, `domain`, the domain's name, `server`, and the name of a host.
-ghost use Rattle.std.specs.Prelude.{◌≡◌, ℕ, true, List, length, IfSome as found, is_ok, None, Option};
+ghost use Rattle.std.specs.Prelude.{◌≡◌, ℕ, true, List, length, IfSome, is_ok, None, Option};
 ghost use Rattle.std.specs.Option.{option_map, option_to_list};
 ghost use Rattle.text.specs.Cuts.{words};
 ghost use Rattle.region.specs.Tables.{DomainEntry};
@@ -136,7 +136,7 @@ pub fn read_domain(
 ) -> Result<(), TextFault>
     ensures told { result ≡ text_told Ypconf (domain_in (hosts_of hosts.now) text.now) }
     ensures held { domain_of domain.new ≡ value_or None (domain_in (hosts_of hosts.now) text.now) }
-    ensures formed { found (domain_of domain.new) (DomainFormed (hosts_of hosts.now)) }
+    ensures formed { IfSome (domain_of domain.new) (DomainFormed (hosts_of hosts.now)) }
     ensures counted { is_ok result ≡ true → length (option_to_list (domain_of domain.new)) ≡ length (entry_lines text.now) }
 {
     let mut reading = Reading {
