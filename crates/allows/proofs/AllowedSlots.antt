@@ -1,5 +1,5 @@
 -- What a rule allows, a slot holds: one clause for each rule. Assumes nothing.
-use Rattle.std.proofs.Common.{◌≡◌, ℕ, ◌+◌, ◌-◌, ◌*◌, ◌/◌, ◌%◌, ◌<◌, Bool, false, cond, eqb, List, Some, codes, Decides, sym, refl, ap, ◌∙◌, subst, ⊎_elim, arith}
+use Rattle.std.proofs.Common.{◌≡◌, ℕ, ◌+◌, ◌-◌, ◌*◌, ◌/◌, ◌%◌, ◌<◌, Bool, false, cond, eqb, List, Some, codes, position, Decides, sym, refl, ap, ◌∙◌, subst, ⊎_elim, arith}
 use Rattle.std.specs.List.{slice_get}
 use Rattle.std.specs.Str.{bytes_eq}
 use Rattle.std.proofs.lemmas.Slice.Eq.{bytes_eq-Decides}
@@ -12,7 +12,6 @@ use Rattle.region.specs.declared.privilege.Right.TheVariants.{AnyUser, Name, Num
 use Rattle.allows.specs.Allows.{AnyPrivilege, at, number_of, HomeFile, MapFile, Has, Live, Allows, directory_above, writing, owner, group_bit, any_user_bit, number_to_name, name_to_number, passwd_file, passwd_map, equiv_line, rhosts_line, rhosts_file, cshrc_file, login_file, profile_file, equiv_file, crontab_file, aliases_file, rc_file, rc_local_file, group_file, group_map, member, some_number, root_by_name}
 use Rattle.allows.specs.Live.{numbered}
 use Rattle.allows.specs.Paths.{nis_map}
-use Rattle.region.specs.Places.{place_of}
 use Rattle.allows.specs.Slots.{Slot, grant, only_if, row_of, by_number, by_nis_map, by_trust, number_slot, belongs, by_member, group_slot, right_slot}
 use Rattle.allows.specs.Trust.{trusting_rule, home_row}
 use Rattle.allows.proofs.Bounds.{host_sound, account-fits, host-fits, fixed-alone, not-root-row}
@@ -126,6 +125,6 @@ module _ (hs : List HostTables) (sound : Sound hs) where
   allowed-slot (root_by_name {h = h} {t = t} {i = i} {a = a} there is name) l =
       let q = host-fits hs sound h t there in
       in-slot h (omega arith)
-      (ap (λ o. and_then o (λ t. and_then (place_of (λ a. bytes_eq a.name (codes "root")) t.accounts) (λ i. grant h (Name i) 25))) there
+      (ap (λ o. and_then o (λ t. and_then (position (λ a. bytes_eq a.name (codes "root")) t.accounts) (λ i. grant h (Name i) 25))) there
       ∙ ap (λ o. and_then o (λ i. grant h (Name i) 25))
       (place-alone (λ a. bytes_eq a.name (codes "root")) (λ a. a.name) (codes "root") (λ b p. (bytes_eq-Decides _ _).0 p) t.accounts (host_sound hs sound h t there).accounts.names i a is ((bytes_eq-Decides _ _).1 name)))

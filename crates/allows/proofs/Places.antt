@@ -1,10 +1,10 @@
 -- Entries of a table, and the first that passes a test. Assumes nothing.
 use Rattle.std.proofs.Common.{◌≡◌, ℕ, zero, suc, ◌+◌, ◌<◌, Bool, true, false, cond, List, [], ◌∷◌, map, length, take, Some, None, Decides, Option, sym, refl, ap, ◌∙◌, subst, ⊎_elim, arith}
-use Rattle.std.specs.List.{slice_get}
+use Rattle.std.specs.List.{slice_get, position, position_from, list_any}
+use Rattle.std.proofs.lemmas.Iterator.Adapters.{position_from-zero}
 use Rattle.std.proofs.lemmas.Bool.{cond-true, cond-false, or_left, or_right, or_cases, cases_Bool, both_ways}
 use Rattle.text.specs.Bytes.{and_then}
 use Rattle.region.specs.Sound.{Entry, Distinct}
-use Rattle.region.specs.Places.{place_from, place_of, some_passes}
 
 pub nothing : {C X : Type 0} {x : X} → None ≡ Some x → C
 nothing h = let z : ◌≡◌ {A = ℕ} 0 1 = cc in absurd (omega arith)
@@ -61,7 +61,7 @@ module _ {X : Type 0} (t : X → Bool) where
     pub is : i ≡ k + place
     pub first : FirstPassing t xs place
 
-  from : (xs : List X) (k i : ℕ) → place_from t k xs ≡ Some i → From xs k i
+  from : (xs : List X) (k i : ℕ) → position_from t k xs ≡ Some i → From xs k i
   from [] k i e = nothing e
   from (y ∷ xs) k i e = split (t y) (Some k) _ i e here (λ f q. later f (from xs (k + 1) i q)) where
     here : t y ≡ true → Some k ≡ Some i → From (y ∷ xs) k i
@@ -70,10 +70,10 @@ module _ {X : Type 0} (t : X → Bool) where
     later : t y ≡ false → From xs (k + 1) i → From (y ∷ xs) k i
     later f r = let q = r.is in record { place = suc r.place; is = omega arith; first = first_more y xs r.place f r.first }
 
-  pub place_in : (xs : List X) (i : ℕ) → place_of t xs ≡ Some i → FirstPassing t xs i
-  place_in xs i e = let r = from xs 0 i e in let q : r.place ≡ i = (let h = r.is in omega arith) in subst (FirstPassing t xs) q r.first
+  pub place_in : (xs : List X) (i : ℕ) → position t xs ≡ Some i → FirstPassing t xs i
+  place_in xs i e = let r = from xs 0 i (sym (position_from-zero t xs) ∙ e) in let q : r.place ≡ i = (let h = r.is in omega arith) in subst (FirstPassing t xs) q r.first
 
-  to : (xs : List X) (k i : ℕ) (x : X) → Entry xs i x → t x ≡ true → ((j : ℕ) (y : X) → j < i → Entry xs j y → t y ≡ true → ⊥) → place_from t k xs ≡ Some (k + i)
+  to : (xs : List X) (k i : ℕ) (x : X) → Entry xs i x → t x ≡ true → ((j : ℕ) (y : X) → j < i → Entry xs j y → t y ≡ true → ⊥) → position_from t k xs ≡ Some (k + i)
   to [] k i x e p none = nothing e
   to (y ∷ xs) k zero x e p none = let q : Some y ≡ Some x = e in let v : y ≡ x = cc in cond-true (t y) _ _ (ap t v ∙ p) ∙ ap Some (omega arith)
   to (y ∷ xs) k (suc i) x e p none =
@@ -82,21 +82,21 @@ module _ {X : Type 0} (t : X → Bool) where
       (λ b. cond-false (t y) _ _ b ∙ to xs (k + 1) i x e p (λ j z l h q. none (suc j) z (omega arith) h q) ∙ ap Some (omega arith))
       (cases_Bool (t y))
 
-  pub place_out : (xs : List X) (i : ℕ) (x : X) → Entry xs i x → t x ≡ true → ((j : ℕ) (y : X) → j < i → Entry xs j y → t y ≡ true → ⊥) → place_of t xs ≡ Some i
-  place_out xs i x e p none = to xs 0 i x e p none ∙ ap Some (omega arith)
+  pub place_out : (xs : List X) (i : ℕ) (x : X) → Entry xs i x → t x ≡ true → ((j : ℕ) (y : X) → j < i → Entry xs j y → t y ≡ true → ⊥) → position t xs ≡ Some i
+  place_out xs i x e p none = position_from-zero t xs ∙ to xs 0 i x e p none ∙ ap Some (omega arith)
 
   -- where what passes has one key, and no two entries have the same, an entry that passes is the first
-  pub place-alone : {K : Type 0} (key : X → K) (k : K) → ((x : X) → t x ≡ true → key x ≡ k) → (xs : List X) → Distinct key xs → (i : ℕ) (x : X) → Entry xs i x → t x ≡ true → place_of t xs ≡ Some i
+  pub place-alone : {K : Type 0} (key : X → K) (k : K) → ((x : X) → t x ≡ true → key x ≡ k) → (xs : List X) → Distinct key xs → (i : ℕ) (x : X) → Entry xs i x → t x ≡ true → position t xs ≡ Some i
   place-alone key k keyed xs apart i x e p = place_out xs i x e p (λ j y lt h q. let v = apart j i y x h e (keyed y q ∙ sym (keyed x p)) in omega arith)
 
   module _ (P : X → Type 0) (dec : (x : X) → Decides (t x) (P x)) where
-    pub some-decides : (xs : List X) → Decides (some_passes t xs) ((m : ℕ) × (x : X) × Entry xs m x × P x)
+    pub some-decides : (xs : List X) → Decides (list_any t xs) ((m : ℕ) × (x : X) × Entry xs m x × P x)
     some-decides xs = (to xs, λ h. from xs h.0 h.1 h.2 h.3) where
-      to : (xs : List X) → some_passes t xs ≡ true → (m : ℕ) × (x : X) × Entry xs m x × P x
+      to : (xs : List X) → list_any t xs ≡ true → (m : ℕ) × (x : X) × Entry xs m x × P x
       to [] e = let v : ◌≡◌ {A = ℕ} 0 1 = cc in absurd (omega arith)
-      to (y ∷ xs) e = ⊎_elim (λ h. (0, y, refl, (dec y).0 h)) (λ h. let r = to xs h in (suc r.0, r.1, r.2, r.3)) (or_cases (t y) (some_passes t xs) e)
+      to (y ∷ xs) e = ⊎_elim (λ h. (0, y, refl, (dec y).0 h)) (λ h. let r = to xs h in (suc r.0, r.1, r.2, r.3)) (or_cases (t y) (list_any t xs) e)
 
-      from : (xs : List X) (m : ℕ) (x : X) → Entry xs m x → P x → some_passes t xs ≡ true
+      from : (xs : List X) (m : ℕ) (x : X) → Entry xs m x → P x → list_any t xs ≡ true
       from [] m x e p = nothing e
       from (y ∷ xs) zero x e p = let e1 : Some y ≡ Some x = e in let q : y ≡ x = cc in or_left (t y) _ ((dec y).1 (subst P (sym q) p))
       from (y ∷ xs) (suc m) x e p = or_right (t y) _ (from xs m x e p)

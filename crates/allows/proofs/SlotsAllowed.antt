@@ -1,5 +1,5 @@
 -- What a slot holds, a rule allows: rule by rule, and then kind by kind. Assumes nothing.
-use Rattle.std.proofs.Common.{◌≡◌, ℕ, ◌-◌, ◌/◌, ◌%◌, not, eqb, List, Some, codes, refl, ap, ◌∙◌, subst}
+use Rattle.std.proofs.Common.{◌≡◌, ℕ, ◌-◌, ◌/◌, ◌%◌, not, eqb, List, Some, codes, position, refl, ap, ◌∙◌, subst}
 use lib.Bits.{bit_and}
 use Rattle.std.specs.List.{slice_get}
 use Rattle.std.specs.Str.{bytes_eq}
@@ -13,7 +13,6 @@ use Rattle.region.specs.declared.privilege.Right.TheVariants.{AnyUser, Name, Num
 use Rattle.allows.specs.Allows.{AnyPrivilege, at, root_anywhere, number_of, HomeFile, MapFile, Allows, directory_above, writing, owner, group_bit, any_user_bit, number_to_name, name_to_number, passwd_file, passwd_map, equiv_line, rhosts_line, rhosts_file, cshrc_file, login_file, profile_file, equiv_file, crontab_file, aliases_file, rc_file, rc_local_file, group_file, group_map, member, some_number, root_by_name}
 use Rattle.allows.specs.Live.{numbered, is_first}
 use Rattle.allows.specs.Paths.{nis_map}
-use Rattle.region.specs.Places.{place_of}
 use Rattle.allows.specs.Slots.{Slot, grant, row_of, by_number, by_home_file, by_nis_map, by_directory_above, replace_slot, by_file_group, by_anyone, write_slot, name_slot, by_rhosts_file, by_equiv_file, by_root_file, by_trust, number_slot, by_member, group_slot, any_slot, root_slot, right_slot}
 use Rattle.allows.specs.Trust.{trusting_rule, by_rhosts}
 use Rattle.allows.proofs.Bounds.{host_sound, host-fits, account-fits, group-fits, row_fits, fixed-row, fixed-alone}
@@ -78,7 +77,7 @@ module _ (hs : List HostTables) (sound : Sound hs) (p u : ℕ) where
         rule-3 e = number-found s.owner 3 e (λ i a. owner there is stat)
 
         rule-4 : Filled (by_file_group t h s) → Found hs p u (at h (Write r))
-        rule-4 e = only (not (eqb (bit_and s.mode 0o20) 0)) _ _ e (λ m e. via (place_of (λ b. eqb b.number s.group) t.groups) _ _ e (λ j at_j e.
+        rule-4 e = only (not (eqb (bit_and s.mode 0o20) 0)) _ _ e (λ m e. via (position (λ b. eqb b.number s.group) t.groups) _ _ e (λ j at_j e.
             let f = place_in (λ b. eqb b.number s.group) t.groups j at_j in
             found (at h (Group j)) 4 (group_bit there is stat (eqb-false _ 0 (not-true _ m)) f.there (eqb-true _ _ f.passes)) (group-fits hs sound h t there j f.entry f.there) e))
 
@@ -181,7 +180,7 @@ module _ (hs : List HostTables) (sound : Sound hs) (p u : ℕ) where
     of_right (Replace r) k e = via (slice_get t.files r) _ _ e (λ x is. of-replace r x is k)
 
   rule-25 : (h : ℕ) → Filled (root_slot hs h) → Found hs p u root_anywhere
-  rule-25 h e = via (slice_get hs h) _ _ e (λ t there e. via (place_of (λ a. bytes_eq a.name (codes "root")) t.accounts) _ _ e (λ i at_i e.
+  rule-25 h e = via (slice_get hs h) _ _ e (λ t there e. via (position (λ a. bytes_eq a.name (codes "root")) t.accounts) _ _ e (λ i at_i e.
       let f = place_in (λ a. bytes_eq a.name (codes "root")) t.accounts i at_i in
       found (at h (Name i)) 25 (root_by_name there f.there ((bytes_eq-Decides _ _).0 f.passes)) (account-fits hs sound h t there i f.entry f.there) e))
 

@@ -1,6 +1,6 @@
 -- What the tests of the rules say. Assumes nothing.
 use Rattle.std.proofs.Common.{◌≡◌, ℕ, zero, suc, Bool, true, false, ◌&&◌, List, [], ◌∷◌, get_or, is_some, Some, None, codes, Decides, Option, sym, refl, ap, ◌∙◌}
-use Rattle.std.specs.List.{slice_get}
+use Rattle.std.specs.List.{slice_get, list_any}
 use Rattle.std.specs.Str.{bytes_eq}
 use Rattle.std.proofs.lemmas.Slice.Eq.{bytes_eq-Decides}
 use Rattle.std.proofs.lemmas.Bool.{both_ways}
@@ -10,7 +10,6 @@ use Rattle.region.specs.Sound.{Entry, Distinct}
 use Rattle.region.specs.Tables.{AccountEntry, GroupEntry, Stat, FileEntry, TrustWord, anyone, named, TrustEntry, HostTables}
 use Rattle.allows.specs.Allows.{HomeFile, Belongs, WordFits, UserFits, LetsIn, SomeLetsIn, EquivLetsIn, OwnRhosts, RhostsLetsIn}
 use Rattle.allows.specs.Paths.{in_home}
-use Rattle.region.specs.Places.{some_passes}
 use Rattle.allows.specs.Slots.{belongs}
 use Rattle.allows.specs.Trust.{word_fits, user_fits, line_fits, rhosts_of, home_row, owned_by, own_rhosts, by_equiv, by_rhosts}
 use Rattle.allows.proofs.Numbers.{never}
@@ -53,7 +52,7 @@ user_decides (Some w) user own = word_decides w user
 line_decides : (s : HostTables) (b a : AccountEntry) (l : TrustEntry) → Decides (line_fits s b a l) (LetsIn s b a l)
 line_decides s b a l = Decides-like _ (λ h. record { host = h.0; user = h.1 }) (λ h. (h.host, h.user)) (Decides-and _ _ (word_decides l.host s.name) (user_decides l.user b.name a.name))
 
-some-lets_in : (ls : List TrustEntry) (s : HostTables) (b a : AccountEntry) → Decides (some_passes (line_fits s b a) ls) (SomeLetsIn ls s b a)
+some-lets_in : (ls : List TrustEntry) (s : HostTables) (b a : AccountEntry) → Decides (list_any (line_fits s b a) ls) (SomeLetsIn ls s b a)
 some-lets_in ls s b a = some-decides (line_fits s b a) (LetsIn s b a) (line_decides s b a) ls
 
 pub equiv_decides : (t : HostTables) (a : AccountEntry) (s : HostTables) (b : AccountEntry) → Decides (by_equiv t a s b) (EquivLetsIn t a s b)

@@ -1,5 +1,5 @@
 -- Which privileges are live. Assumes nothing.
-use Rattle.std.specs.Prelude.{ℕ, Bool, true, false, cond, List, length, Some, None, Option, ◌==◌, nat_eq, nat_lt}
+use Rattle.std.specs.Prelude.{ℕ, Bool, true, false, cond, List, length, Some, None, Option, ◌==◌, nat_eq, nat_lt, position}
 use Rattle.std.specs.List.{slice_get}
 use Rattle.text.specs.Bytes.{and_then}
 use Rattle.region.specs.Privileges.{decoded}
@@ -7,11 +7,10 @@ use Rattle.region.specs.Tables.{AccountEntry, HostTables}
 use Rattle.region.specs.declared.privilege.Privilege.{Privilege}
 use Rattle.region.specs.declared.privilege.Right.{Right}
 use Rattle.region.specs.declared.privilege.Right.TheVariants.{AnyUser, Name, Number, Group, Write, Replace}
-use Rattle.region.specs.Places.{place_of}
 
 -- the first account with the number n
 abbrev pub numbered : ℕ → List AccountEntry → Option ℕ
-numbered n xs = place_of (λ a. nat_eq a.number n) xs
+numbered n xs = position (λ a. nat_eq a.number n) xs
 
 -- whether a place was found, and is i
 abbrev pub is_place : ℕ → Option ℕ → Bool

@@ -1,5 +1,5 @@
 -- What the slots of each kind of privilege hold, by the rules of docs/RULES.md. Assumes nothing.
-use Rattle.std.specs.Prelude.{ℕ, ◌-◌, ◌/◌, ◌%◌, Bool, false, cond, not, ◌||◌, List, Some, None, codes, Option, ◌==◌, bit_and, nat_eq, slice_index_or}
+use Rattle.std.specs.Prelude.{ℕ, ◌-◌, ◌/◌, ◌%◌, Bool, false, cond, not, ◌||◌, List, Some, None, codes, Option, ◌==◌, bit_and, nat_eq, slice_index_or, position}
 use Rattle.std.specs.List.{slice_get}
 use Rattle.std.specs.Str.{bytes_eq}
 use Rattle.text.specs.Bytes.{and_then}
@@ -9,7 +9,6 @@ use Rattle.region.specs.declared.privilege.Right.{Right}
 use Rattle.region.specs.declared.privilege.Right.TheVariants.{AnyUser, Name, Number, Group, Write, Replace}
 use Rattle.allows.specs.Live.{numbered, is_first}
 use Rattle.allows.specs.Paths.{nis_map}
-use Rattle.region.specs.Places.{place_of}
 use Rattle.allows.specs.Trust.{home_row, trusting_rule}
 
 -- what a slot holds: a granting privilege and a rule, or nothing
@@ -56,7 +55,7 @@ by_home_file t h a file u = and_then (home_row t a file) (λ r. grant h (Replace
 
 -- the row of a path, present or not
 abbrev pub row_of : HostTables → List ℕ → Option ℕ
-row_of t path = place_of (λ x. bytes_eq x.path path) t.files
+row_of t path = position (λ x. bytes_eq x.path path) t.files
 
 -- to replace a NIS map at the server of the host's domain grants
 abbrev pub by_nis_map : List HostTables → HostTables → List ℕ → ℕ → Slot
@@ -72,7 +71,7 @@ replace_slot h r x k = cond (k == 0) (by_directory_above h r x) (cond (k == 1) (
 
 -- rule 4: the file's group, if the mode has octal 020
 abbrev pub by_file_group : HostTables → ℕ → Stat → Slot
-by_file_group t h s = only_if (not (bit_and s.mode 0o20 == 0)) (and_then (place_of (λ b. nat_eq b.number s.group) t.groups) (λ j. grant h (Group j) 4))
+by_file_group t h s = only_if (not (bit_and s.mode 0o20 == 0)) (and_then (position (λ b. nat_eq b.number s.group) t.groups) (λ j. grant h (Group j) 4))
 
 -- rule 5: any user, if the mode has octal 002
 abbrev pub by_anyone : ℕ → Stat → Slot
@@ -137,7 +136,7 @@ any_slot t h i = only_if (is_first t.accounts i) (grant h (Number i) 24)
 
 -- rule 25, of root at any host: the name `root` at host h
 abbrev pub root_slot : List HostTables → ℕ → Slot
-root_slot hs h = and_then (slice_get hs h) (λ t. and_then (place_of (λ a. bytes_eq a.name (codes "root")) t.accounts) (λ i. grant h (Name i) 25))
+root_slot hs h = and_then (slice_get hs h) (λ t. and_then (position (λ a. bytes_eq a.name (codes "root")) t.accounts) (λ i. grant h (Name i) 25))
 
 -- the slots of a right at host h, whose tables are t
 abbrev pub right_slot : List HostTables → HostTables → ℕ → Right → ℕ → Slot

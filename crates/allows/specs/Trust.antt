@@ -1,11 +1,10 @@
 -- Whom lines of trust let in, and by which rule. Assumes nothing.
-use Rattle.std.specs.Prelude.{ℕ, Bool, true, false, cond, not, ◌&&◌, List, [], is_some, Some, None, codes, Option, ◌==◌, slice_index_or}
-use Rattle.std.specs.List.{slice_get}
+use Rattle.std.specs.Prelude.{ℕ, Bool, true, false, cond, not, ◌&&◌, List, [], is_some, Some, None, codes, Option, ◌==◌, slice_index_or, position}
+use Rattle.std.specs.List.{slice_get, list_any}
 use Rattle.std.specs.Str.{bytes_eq}
 use Rattle.text.specs.Bytes.{and_then}
 use Rattle.region.specs.Tables.{AccountEntry, Stat, TrustWord, anyone, named, TrustEntry, HostTables}
 use Rattle.allows.specs.Paths.{in_home}
-use Rattle.region.specs.Places.{place_of, some_passes}
 
 -- a word fits a name if it is a plus or that name
 abbrev pub word_fits : TrustWord → List ℕ → Bool
@@ -27,7 +26,7 @@ rhosts_of t i = slice_index_or t.rhosts i []
 
 -- the row of a file in a home, if it is present
 abbrev pub home_row : HostTables → AccountEntry → List ℕ → Option ℕ
-home_row t a file = place_of (λ x. bytes_eq x.path (in_home a.home file) && is_some x.stat) t.files
+home_row t a file = position (λ x. bytes_eq x.path (in_home a.home file) && is_some x.stat) t.files
 
 -- whether a file is present and has this owner
 abbrev pub owned_by : ℕ → Option Stat → Bool
@@ -40,11 +39,11 @@ own_rhosts t a = owned_by a.number (and_then (home_row t a (codes "/.rhosts")) (
 
 -- whether hosts.equiv of the host t lets b of s into a
 abbrev pub by_equiv : HostTables → AccountEntry → HostTables → AccountEntry → Bool
-by_equiv t a s b = not (a.number == 0) && some_passes (line_fits s b a) t.equiv
+by_equiv t a s b = not (a.number == 0) && list_any (line_fits s b a) t.equiv
 
 -- whether the .rhosts of account i, a, does
 abbrev pub by_rhosts : HostTables → ℕ → AccountEntry → HostTables → AccountEntry → Bool
-by_rhosts t i a s b = some_passes (line_fits s b a) (rhosts_of t i) && own_rhosts t a
+by_rhosts t i a s b = list_any (line_fits s b a) (rhosts_of t i) && own_rhosts t a
 
 -- the rule by which b of s is let in: 10 by hosts.equiv, and 11 by the .rhosts only where hosts.equiv does not
 abbrev pub trusting_rule : HostTables → ℕ → AccountEntry → HostTables → AccountEntry → Option ℕ

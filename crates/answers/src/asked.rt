@@ -1,96 +1,90 @@
 // One question, answered in printed lines.
-ghost use Rattle.std.specs.Prelude.{◌≡◌};
-ghost use Rattle.search.specs.Refusals.{number};
-
 use crate::lines::{held_alone, start_and_goal};
-use print::{no_chain_line, plan_line, refusal_line};
+use print::{Refused, no_chain_line, plan_line, refusal_line};
 use rules::measure::Measure;
 use rules::named::Named;
-use rules::source::RuleSource;
-use rules::weights::Label;
 use search::answer::Refusal;
 use std::io;
-use trial::runs::blank_labels;
-use trial::trials::Trial;
+use std::process::ExitCode;
+use trial::calls::{Call, Plan, Reply};
+use trial::prepared::Prepared;
 
-// The number of a refusal, as it is printed.
-fn number_of(refusal: Refusal) -> u8
-    ensures { result ≡ number refusal }
-{
-    match refusal {
-        Refusal::ShortMemory => 1,
-        Refusal::BadHeldByte => 16,
-        Refusal::NotLive => 12,
-        Refusal::NoChain => 13,
+// Whether there was an answer, a plan or that there is no chain, or a refusal, which is no answer.
+#[derive(Clone, Copy, Debug, PartialEq, Eq)]
+pub enum Outcome {
+    Answered,
+    Refused,
+}
+
+// The status of a program tells an answer from a refusal.
+impl From<Outcome> for ExitCode {
+    fn from(outcome: Outcome) -> ExitCode {
+        match outcome {
+            Outcome::Answered => ExitCode::SUCCESS,
+            Outcome::Refused => ExitCode::FAILURE,
+        }
     }
 }
 
-// Prints a refusal of the question itself, which is no answer.
-fn refuse(rt: &HostRuntime, number: u8) -> io::Result<bool> {
-    rt.write_all(refusal_line(number, 0, 7, 0).as_slice())?;
-    Ok(false)
+// Prints a refusal.
+pub fn refuse(rt: &HostRuntime, refused: Refused) -> io::Result<Outcome> {
+    rt.write_all(refusal_line(refused).as_slice())?;
+    Ok(Outcome::Refused)
 }
 
-fn print_plan<S: Named>(
+// Prints what a question was answered: the plan, that there is no chain, or the refusal. No other way prints `No chain.`
+fn print_answer<S: Named, W>(
     rt: &HostRuntime,
     source: &S,
-    plan: &[u16],
-    steps: u16,
-) -> io::Result<bool> {
-    let mut k: u32 = 0;
-    for p in plan.iter().take(steps as usize + 1) {
-        k = k.saturating_add(1);
-        rt.write_all(plan_line(source, k, *p).as_slice())?;
-    }
-    Ok(true)
-}
-
-// Asks, and prints the plan, that there is no chain, or the refusal; says whether it was an answer. No other way prints `No chain.`
-fn ask_and_print<S: Named, W: Measure>(
-    rt: &HostRuntime,
-    trial: &Trial<S>,
-    held: &[u8],
-    goal: u16,
-    marks: &mut [u8],
-    labels: &mut [Label<W>],
-    plan: &mut [u16],
-    rules: &mut [u8],
-) -> io::Result<bool> {
-    match trial.ask(held, goal, marks, labels, plan, rules) {
-        Ok(found) => print_plan(rt, trial, plan, found.steps),
+    answer: &Result<Plan<W>, Refusal>,
+) -> io::Result<Outcome> {
+    match answer {
+        Ok(plan) => {
+            for (k, p) in (1..).zip(plan.privileges.iter()) {
+                rt.write_all(plan_line(source, k, *p).as_slice())?;
+            }
+            Ok(Outcome::Answered)
+        }
         Err(Refusal::NoChain) => {
             rt.write_all(no_chain_line().as_slice())?;
-            Ok(true)
+            Ok(Outcome::Answered)
         }
-        Err(refusal) => refuse(rt, number_of(refusal)),
+        Err(refusal) => refuse(rt, (*refusal).into()),
     }
 }
 
-// Answers the question of two lines, start and goal, over the source by the measure W; says whether it was answered or refused.
+// Prints the reply to a call.
+pub fn print_reply<S: Named, W>(
+    rt: &HostRuntime,
+    source: &S,
+    reply: &Reply<W>,
+) -> io::Result<Outcome> {
+    match reply {
+        Reply::Changed(Ok(())) => {
+            rt.write_all(b"Accepted.\n")?;
+            Ok(Outcome::Answered)
+        }
+        Reply::Changed(Err(refusal)) => refuse(rt, (*refusal).into()),
+        Reply::Asked(answer) => print_answer(rt, source, answer),
+    }
+}
+
+// Answers the question of two lines, start and goal, over the source by the measure W.
 pub fn answer<S: Named + Drop, W: Measure>(
     rt: &HostRuntime,
     source: S,
     question: &[u8],
-) -> io::Result<bool> {
+) -> io::Result<Outcome> {
     let heap = rt.alloc();
-    let trial = Trial::bare(heap, source)?;
-    let Some((start, goal)) = start_and_goal(&trial, question) else {
-        return refuse(rt, 12);
+    let Some((start, goal)) = start_and_goal(&source, question) else {
+        return refuse(rt, Refusal::NotLive.into());
     };
-    let n = trial.count() as usize;
-    let held = held_alone(heap, n, start)?;
-    let mut marks = vec![in heap; 0u8; n]?;
-    let mut labels = blank_labels::<W>(heap, n)?;
-    let mut plan = vec![in heap; 0u16; n]?;
-    let mut rules = vec![in heap; 0u8; n]?;
-    ask_and_print(
-        rt,
-        &trial,
-        &held,
-        goal,
-        &mut marks,
-        &mut labels,
-        &mut plan,
-        &mut rules,
-    )
+    let held = held_alone(heap, source.count() as usize, start)?;
+    let calls = [Call::Ask(held.as_slice(), goal)];
+    let prepared: Prepared<S, W> = Prepared::new(heap, source, &calls)?;
+    let done = prepared.run();
+    match done.replies.first() {
+        Some(reply) => print_reply(rt, &done.trial, reply),
+        None => unreachable!(),
+    }
 }

@@ -4,5 +4,5 @@
 mod asked;
 mod lines;
 
-pub use asked::answer;
+pub use asked::{Outcome, answer, print_reply, refuse};
 pub use lines::{held_alone, start_and_goal};

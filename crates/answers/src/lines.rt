@@ -1,18 +1,19 @@
 // A question as its two lines say it.
-ghost use Rattle.std.specs.Prelude.{◌≡◌, ◌<◌, replicate, IfOk, slice_set};
+ghost use Rattle.std.specs.Prelude.{◌≡◌, replicate, IfOk, slice_set};
 ghost use Rattle.answers.specs.Questions.{NamedByLines};
 
 use print::privilege_of;
 use rules::named::Named;
 use std::alloc::{AllocError, Global};
-use text::next_line;
+use text::lines;
 
 // Start and goal: the live privileges that the first two lines print, or none where one of them is missing or printed by none.
 pub fn start_and_goal<S: Named>(source: &S, question: &[u8]) -> Option<(u16, u16)>
     ensures { NamedByLines (S.RuleSource.meaning source.now) (S.form source.now) question.now result }
 {
-    let (first, rest) = next_line(question)?;
-    let (second, _) = next_line(rest)?;
+    let mut lines = lines(question);
+    let first = lines.next()?;
+    let second = lines.next()?;
     let start = privilege_of(source, first)?;
     let goal = privilege_of(source, second)?;
     Some((start, goal))
@@ -20,10 +21,11 @@ pub fn start_and_goal<S: Named>(source: &S, question: &[u8]) -> Option<(u16, u16
 
 // The bytes of a held set of n privileges in which p alone is held.
 pub fn held_alone(heap: Global, n: usize, p: u16) -> Result<Vec<u8>, AllocError>
-    requires { p < n }
     ensures { IfOk result (λ v. v.items ≡ slice_set (replicate n 0) p 1) }
 {
     let mut held = vec![in heap; 0u8; n]?;
-    held[p as usize] = 1;
+    if let Some(byte) = held.get_mut(p as usize) {
+        *byte = 1;
+    }
     Ok(held)
 }

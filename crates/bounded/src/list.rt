@@ -5,6 +5,7 @@ use std::alloc::AllocError;
 
 mod methods;
 
+// The places and their number stand side by side, since names and paths are copied and nothing here may allocate: the library's `arrayvec` is no `Copy`.
 pub struct ArrayVec<T, const N: usize> {
     items: [T; N],
     len: usize,
@@ -12,6 +13,7 @@ pub struct ArrayVec<T, const N: usize> {
     ghost whole: { N ≤ length items },
 }
 
+// By hand: at a type with a parameter and ghost fields a derive gets no proof.
 impl<T: Copy, const N: usize> Copy for ArrayVec<T, N> {}
 
 impl<T: Copy, const N: usize> Clone for ArrayVec<T, N> {

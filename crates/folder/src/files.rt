@@ -1,82 +1,84 @@
+// Opens the texts of a region's folder, and reads them into a site.
 use crate::stopped::Stopped;
+use reading::SiteFault;
 use site::OpenSite;
 use std::fs::File;
 use std::io;
 use std::io::Read;
 
-// The bytes of a file, at most one more than a text may have; none where the file won't open.
-fn bytes_of(rt: &HostRuntime, path: &str) -> io::Result<Option<Vec<u8>>> {
-    let Ok(file) = File::open(rt, path) else {
-        return Ok(None);
-    };
+// All bytes of an input.
+pub fn bytes_of(rt: &HostRuntime, mut input: impl Read + Drop) -> io::Result<Vec<u8>> {
     let mut bytes = Vec::new(rt.alloc());
-    file.take(8193).read_to_end(&mut bytes)?;
-    Ok(Some(bytes))
+    input.read_to_end(&mut bytes)?;
+    Ok(bytes)
 }
 
-// The bytes of a host's text.
-fn text_of(rt: &HostRuntime, folder: &str, host: u8, name: &str) -> io::Result<Option<Vec<u8>>> {
-    let path = format!(in rt.alloc(); "{folder}/{host}.{name}")?;
-    bytes_of(rt, path.as_str())
+// A region's folder.
+#[derive(Clone, Copy)]
+struct Folder<'a> {
+    rt: &'a HostRuntime,
+    name: &'a str,
 }
 
-// How many accounts a host has.
-fn accounts_of(site: &OpenSite, host: u8) -> usize {
-    match site.hosts().get(host as usize) {
-        Some(host) => host.account_count(),
-        None => 0,
+impl<'a> Folder<'a> {
+    // Reads the file at a path, at most one byte more than a text may have. A file that won't open is unread.
+    fn read<F: FnOnce(&[u8]) -> Result<(), SiteFault>>(
+        &self,
+        path: &str,
+        read: F,
+    ) -> Result<(), Stopped>
+        requires { F.IsAlwaysCallable read }
+    {
+        let Ok(file) = File::open(self.rt, path) else {
+            return Ok(());
+        };
+        let text = bytes_of(self.rt, file.take(8193))?;
+        read(text.as_slice())?;
+        Ok(())
     }
-}
 
-fn read_rhosts(
-    rt: &HostRuntime,
-    folder: &str,
-    site: &mut OpenSite,
-    host: u8,
-) -> Result<(), Stopped> {
-    for account in 0..16u8 {
-        if account as usize >= accounts_of(site, host) {
-            break;
+    // Reads a text of a host.
+    fn read_text<F: FnOnce(&[u8]) -> Result<(), SiteFault>>(
+        &self,
+        host: u8,
+        text: &str,
+        read: F,
+    ) -> Result<(), Stopped>
+        requires { F.IsAlwaysCallable read }
+    {
+        let folder = self.name;
+        let path = format!(in self.rt.alloc(); "{folder}/{host}.{text}")?;
+        self.read(path.as_str(), read)
+    }
+
+    fn read_host(&self, site: &mut OpenSite, host: u8) -> Result<(), Stopped> {
+        self.read_text(host, "passwd", |text| site.read_passwd(host, text))?;
+        self.read_text(host, "group", |text| site.read_group(host, text))?;
+        self.read_text(host, "mtree", |text| site.read_mtree(host, text))?;
+        self.read_text(host, "equiv", |text| site.read_equiv(host, text))?;
+        self.read_text(host, "ypconf", |text| site.read_ypconf(host, text))?;
+        let accounts = site
+            .hosts()
+            .get(host as usize)
+            .map_or(0, |t| t.account_count());
+        for account in (0..16u8).take(accounts) {
+            let name = format!(in self.rt.alloc(); "rhosts.{account}")?;
+            self.read_text(host, name.as_str(), |text| {
+                site.read_rhosts(host, account, text)
+            })?;
         }
-        let name = format!(in rt.alloc(); "rhosts.{account}")?;
-        if let Some(text) = text_of(rt, folder, host, name.as_str())? {
-            site.read_rhosts(host, account, text.as_slice())?;
-        }
+        Ok(())
     }
-    Ok(())
 }
 
-fn read_host(rt: &HostRuntime, folder: &str, site: &mut OpenSite, host: u8) -> Result<(), Stopped> {
-    if let Some(text) = text_of(rt, folder, host, "passwd")? {
-        site.read_passwd(host, text.as_slice())?;
-    }
-    if let Some(text) = text_of(rt, folder, host, "group")? {
-        site.read_group(host, text.as_slice())?;
-    }
-    if let Some(text) = text_of(rt, folder, host, "mtree")? {
-        site.read_mtree(host, text.as_slice())?;
-    }
-    if let Some(text) = text_of(rt, folder, host, "equiv")? {
-        site.read_equiv(host, text.as_slice())?;
-    }
-    if let Some(text) = text_of(rt, folder, host, "ypconf")? {
-        site.read_ypconf(host, text.as_slice())?;
-    }
-    read_rhosts(rt, folder, site, host)
-}
-
-// Reads whatever opens of a region's folder. A file that won't open is unread.
-pub fn read_region(rt: &HostRuntime, folder: &str) -> Result<OpenSite, Stopped> {
+// Reads whatever opens of a region's folder.
+pub fn read_region(rt: &HostRuntime, name: &str) -> Result<OpenSite, Stopped> {
+    let folder = Folder { rt, name };
     let mut site = OpenSite::new(rt.alloc())?;
-    let path = format!(in rt.alloc(); "{folder}/hosts")?;
-    if let Some(text) = bytes_of(rt, path.as_str())? {
-        site.read_hosts(text.as_slice())?;
-    }
-    for host in 0..8u8 {
-        if host as usize >= site.hosts().len() {
-            break;
-        }
-        read_host(rt, folder, &mut site, host)?;
+    let path = format!(in rt.alloc(); "{name}/hosts")?;
+    folder.read(path.as_str(), |text| site.read_hosts(text))?;
+    for host in (0..8u8).take(site.hosts().len()) {
+        folder.read_host(&mut site, host)?;
     }
     Ok(site)
 }

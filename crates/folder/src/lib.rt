@@ -4,5 +4,5 @@
 mod files;
 mod stopped;
 
-pub use files::read_region;
+pub use files::{bytes_of, read_region};
 pub use stopped::Stopped;

@@ -1,7 +1,8 @@
 -- A form tells its privilege: its words lead back. Assumes nothing.
 use Rattle.std.proofs.Common.{◌≡◌, ℕ, ◌-◌, ◌≤◌, false, cond, eqb, List, [], ◌∷◌, ◌++◌, length, get_or, Some, None, codes, decimal, Option, sym, refl, ap, ◌∙◌, arith}
 use mathlib.Core.List.{append_cancel_right}
-use Rattle.std.specs.List.{slice_get}
+use Rattle.std.specs.List.{slice_get, position}
+use Rattle.std.specs.Option.{unwrap_or}
 use Rattle.std.specs.Str.{bytes_eq}
 use Rattle.std.proofs.lemmas.Slice.Eq.{bytes_eq-Decides}
 use Rattle.std.proofs.lemmas.Bool.{or_parts}
@@ -10,11 +11,10 @@ use Rattle.region.specs.Tables.{AccountEntry, GroupEntry, FileEntry, HostTables}
 use Rattle.region.specs.declared.privilege.Right.{Right}
 use Rattle.region.specs.declared.privilege.Right.TheVariants.{AnyUser, Name, Number, Group, Write, Replace}
 use Rattle.allows.specs.Allows.{AnyPrivilege, at, root_anywhere, Has, Live}
-use Rattle.region.specs.Places.{place_of}
 use Rattle.allows.proofs.Places.{place-alone}
-use Rattle.forms.specs.Forms.{name_form, number_form, group_form, write_form, replace_form, root_form}
+use Rattle.forms.specs.Forms.{root_form}
 use Rattle.forms.specs.Printed.{printed, right_form}
-use Rattle.forms.proofs.Visible.{Solid, solid_name, solid_path}
+use Rattle.forms.proofs.Visible.{Solid, solid_piece, solid_name, solid_path}
 use Rattle.forms.proofs.Words.{split, name-words, number-words, group-words, write_words, replace_words}
 
 abbrev bracketed : List ℕ → List ℕ
@@ -25,18 +25,14 @@ word ws k = get_or ws k []
 
 -- the entry whose key is this word
 module _ {X : Type 0} (key : X → List ℕ) where
-  abbrev place : Option ℕ → ℕ
-  place None = 0
-  place (Some i) = i
-
   abbrev find : List X → List ℕ → ℕ
-  find xs w = place (place_of (λ x. bytes_eq (key x) w) xs)
+  find xs w = unwrap_or (position (λ x. bytes_eq (key x) w) xs) 0
 
-  own-place : (xs : List X) → Distinct key xs → (i : ℕ) (x : X) → Entry xs i x → place_of (λ y. bytes_eq (key y) (key x)) xs ≡ Some i
+  own-place : (xs : List X) → Distinct key xs → (i : ℕ) (x : X) → Entry xs i x → position (λ y. bytes_eq (key y) (key x)) xs ≡ Some i
   own-place xs apart i x is = place-alone (λ y. bytes_eq (key y) (key x)) key (key x) (λ y e. (bytes_eq-Decides (key y) (key x)).0 e) xs apart i x is ((bytes_eq-Decides (key x) (key x)).1 refl)
 
   own : (xs : List X) → Distinct key xs → (i : ℕ) (x : X) → Entry xs i x → find xs (key x) ≡ i
-  own xs apart i x is = ap place (own-place xs apart i x is)
+  own xs apart i x is = ap (λ o. unwrap_or o 0) (own-place xs apart i x is)
 
 -- names apart stay apart in brackets
 brackets : {X : Type 0} (key : X → List ℕ) (xs : List X) → Distinct key xs → Distinct (λ x. bracketed (key x)) xs
@@ -106,16 +102,16 @@ module _ (t : HostTables) (sound : HostSound t) where
   solid-file r x is = solid_path x.path (sound.files.formed r x is)
 
   words_of : (w : Right) (has : Has t w) → split (right_form t w) ≡ words-at t w has
-  words_of AnyUser has = name-words (codes "any") t.name ((omega arith, omega arith), ((omega arith, omega arith), ((omega arith, omega arith), tt))) solid-host
-  words_of (Name i) has = ap (λ o. split (printed o (λ a. name_form a.name t.name))) has.1 ∙ name-words has.0.name t.name (solid-account i has.0 has.1) solid-host
+  words_of AnyUser has = name-words (codes "any") t.name (solid_piece (codes "any") refl) solid-host
+  words_of (Name i) has = rw has.1 (name-words has.0.name t.name (solid-account i has.0 has.1) solid-host)
   words_of (Number i) has =
       let n = account-numbered i has.0 has.1.there in
-      ap (λ o. split (printed o (λ a. number_form a.number a.name t.name))) has.1.there ∙ number-words has.0.number has.0.name t.name (omega arith) (solid-account i has.0 has.1.there) solid-host
+      rw has.1.there (number-words has.0.number has.0.name t.name (omega arith) (solid-account i has.0 has.1.there) solid-host)
   words_of (Group j) has =
       let n = group-numbered j has.0 has.1 in
-      ap (λ o. split (printed o (λ b. group_form b.number b.name t.name))) has.1 ∙ group-words has.0.number has.0.name t.name (omega arith) (solid-group j has.0 has.1) solid-host
-  words_of (Write r) has = ap (λ o. split (printed o (λ x. write_form x.path t.name))) has.1 ∙ write_words has.0.path t.name (solid-file r has.0 has.1) solid-host
-  words_of (Replace r) has = ap (λ o. split (printed o (λ x. replace_form x.path t.name))) has.1 ∙ replace_words has.0.path t.name (solid-file r has.0 has.1) solid-host
+      rw has.1 (group-words has.0.number has.0.name t.name (omega arith) (solid-group j has.0 has.1) solid-host)
+  words_of (Write r) has = rw has.1 (write_words has.0.path t.name (solid-file r has.0 has.1) solid-host)
+  words_of (Replace r) has = rw has.1 (replace_words has.0.path t.name (solid-file r has.0 has.1) solid-host)
 
   told_at : (w : Right) (has : Has t w) → right_back t (words-at t w has) ≡ w
   told_at AnyUser has = refl

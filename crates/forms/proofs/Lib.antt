@@ -3,4 +3,3 @@ pub mod Words
 pub mod Lengths
 pub mod Back
 pub mod Named
-pub mod Written

@@ -1,6 +1,7 @@
 -- The forms of a site are well named. Assumes nothing.
-use Rattle.std.proofs.Common.{◌≡◌, ℕ, ◌≤◌, true, false, cond, eqb, List, [], length, codes, sym, refl, ap, ◌∙◌, subst, ⊎_elim, arith}
-use Rattle.std.specs.List.{slice_get, AllByRecursion}
+use Rattle.std.proofs.Common.{◌≡◌, ℕ, ◌≤◌, true, false, cond, eqb, All, List, [], length, codes, sym, refl, ap, ◌∙◌, subst, ⊎_elim, arith}
+use Rattle.std.specs.List.{slice_get}
+use Rattle.std.proofs.lemmas.List.Elements.{All-nil}
 use Rattle.std.proofs.lemmas.Bool.{cond-true, cond-false, cases_Bool}
 use Rattle.rules.specs.Names.{Printable, WellNamed}
 use Rattle.text.proofs.Wholes.{name-short, path-short}
@@ -13,46 +14,40 @@ use Rattle.allows.specs.Allows.{AnyPrivilege, at, root_anywhere, number_of, Has,
 use Rattle.allows.specs.Live.{site_live}
 use Rattle.allows.specs.Source.{site_rules}
 use Rattle.allows.proofs.Numbers.{Fits, decoded-number, not_root, privilege_of, live_decides}
-use Rattle.forms.specs.Forms.{name_form, number_form, group_form, write_form, replace_form, root_form}
+use Rattle.forms.specs.Forms.{root_form}
 use Rattle.forms.specs.Printed.{printed, right_form, form_of, SiteWellNamed}
 use Rattle.forms.proofs.Back.{form, solid-host, account-named, account-numbered, solid-account, group-named, group-numbered, solid-group, solid-file, never_alike}
 use Rattle.forms.proofs.Lengths.{Proper, name-proper, number-proper, group-proper, write-proper, replace-proper}
-use Rattle.forms.proofs.Visible.{Solid}
-
-solid_any : Solid (codes "any")
-solid_any = ((omega arith, omega arith), ((omega arith, omega arith), ((omega arith, omega arith), tt)))
-
-solid_root : Solid (codes "root")
-solid_root = ((omega arith, omega arith), ((omega arith, omega arith), ((omega arith, omega arith), ((omega arith, omega arith), tt))))
+use Rattle.forms.proofs.Visible.{solid_piece}
 
 -- a form of a live right is proper
 right_proper : (t : HostTables) → HostSound t → (w : Right) → Has t w → Proper (right_form t w)
-right_proper t sound AnyUser has = name-proper (codes "any") t.name solid_any (solid-host t sound) (name-short t.name sound.named.formed) (omega arith)
+right_proper t sound AnyUser has = name-proper (codes "any") t.name (solid_piece (codes "any") refl) (solid-host t sound) (name-short t.name sound.named.formed) (omega arith)
 right_proper t sound (Name i) has =
     let a = has.0 in
-    subst (λ o. Proper (printed o (λ a. name_form a.name t.name))) (sym has.1)
+    rw has.1
     (name-proper a.name t.name (solid-account t sound i a has.1) (solid-host t sound) (name-short t.name sound.named.formed) (name-short a.name (account-named t sound i a has.1).formed))
 right_proper t sound (Number i) has =
     let a = has.0 in
-    subst (λ o. Proper (printed o (λ a. number_form a.number a.name t.name))) (sym has.1.there)
+    rw has.1.there
     (number-proper a.name t.name (solid-account t sound i a has.1.there) (solid-host t sound) (name-short t.name sound.named.formed) a.number (account-numbered t sound i a has.1.there) (name-short a.name (account-named t sound i a has.1.there).formed))
 right_proper t sound (Group j) has =
     let b = has.0 in
-    subst (λ o. Proper (printed o (λ b. group_form b.number b.name t.name))) (sym has.1)
+    rw has.1
     (group-proper b.name t.name (solid-group t sound j b has.1) (solid-host t sound) (name-short t.name sound.named.formed) b.number (group-numbered t sound j b has.1) (name-short b.name (group-named t sound j b has.1).formed))
 right_proper t sound (Write r) has =
     let x = has.0 in
-    subst (λ o. Proper (printed o (λ x. write_form x.path t.name))) (sym has.1)
+    rw has.1
     (write-proper x.path t.name (solid-file t sound r x has.1) (solid-host t sound) (name-short t.name sound.named.formed) (path-short x.path (sound.files.formed r x has.1)))
 right_proper t sound (Replace r) has =
     let x = has.0 in
-    subst (λ o. Proper (printed o (λ x. replace_form x.path t.name))) (sym has.1)
+    rw has.1
     (replace-proper x.path t.name (solid-file t sound r x has.1) (solid-host t sound) (name-short t.name sound.named.formed) (path-short x.path (sound.files.formed r x has.1)))
 
 module _ (hs : List HostTables) (sound : Sound hs) where
   proper : (y : AnyPrivilege) → Live hs y → Proper (form hs y)
-  proper root_anywhere l = name-proper (codes "root") (codes "any") solid_root solid_any (omega arith) (omega arith)
-  proper (at h w) l = subst (λ o. Proper (printed o (λ t. right_form t w))) (sym l.1) (right_proper l.0 (sound.hosts h l.0 l.1) w l.2)
+  proper root_anywhere l = name-proper (codes "root") (codes "any") (solid_piece (codes "root") refl) (solid_piece (codes "any") refl) (omega arith) (omega arith)
+  proper (at h w) l = rw l.1 (right_proper l.0 (sound.hosts h l.0 l.1) w l.2)
 
   form-is : (y : AnyPrivilege) → Fits y → cond (eqb (number_of y) 1416) root_form (printed (decoded (number_of y)) (λ x. printed (slice_get hs x.host) (λ t. right_form t x.right))) ≡ form hs y
   form-is root_anywhere f = refl
@@ -90,7 +85,7 @@ module _ (hs : List HostTables) (sound : Sound hs) where
     live_has_a_form = λ p e. (live-proper p e).some;
     dead_has_none = dead;
     at_most_128_bytes = either (λ bs. length bs ≤ 128) (omega arith) (λ bs k. k.short);
-    printable = either (λ bs. AllByRecursion Printable bs) tt (λ bs k. k.clean);
+    printable = either (All Printable) (All-nil Printable) (λ bs k. k.clean);
     never_alike = λ p q l m e.
         let x = live-form p l in
         let y = live-form q m in

@@ -1,12 +1,13 @@
 -- The bytes of names, paths and numbers can be seen, and those of forms can be printed. Assumes nothing.
-use Rattle.std.proofs.Common.{◌≡◌, ℕ, ◌+◌, ◌%◌, ◌^◌, ◌<◌, ◌≤◌, Bool, true, false, cond, not, ◌&&◌, eqb, leb, List, [], ◌∷◌, length, codes, decimal, sym, refl, ap, ◌∙◌, ⊎_elim, arith}
-use Rattle.std.specs.List.{AllByRecursion}
+use Rattle.std.proofs.Common.{◌≡◌, ℕ, ◌+◌, ◌%◌, ◌^◌, ◌<◌, ◌≤◌, Bool, true, false, cond, not, eqb, leb, All, List, [], ◌∷◌, length, codes, decimal, sym, refl, ⊎_elim, arith}
+use Rattle.std.specs.List.{list_all}
 use Rattle.std.proofs.lemmas.Fmt.{decimal_by_steps}
-use Rattle.std.proofs.ByRecursion.{All-append, All-weaker}
+use Rattle.std.proofs.lemmas.List.Elements.{All-nil, All-cons, All-head, All-tail, All-push, All-weaker}
+use Rattle.std.proofs.lemmas.List.Sums.{AllPass-from_list_all}
 use Rattle.std.proofs.lemmas.Slice.Eq.{bytes_eq-Decides}
 use Rattle.std.proofs.lemmas.Bool.{leb-true, eqb-true, and_parts, or_cases}
 use Rattle.rules.specs.Names.{Printable}
-use Rattle.text.specs.Bytes.{all, within, name_byte, opens, name, dots, part}
+use Rattle.text.specs.Bytes.{within, name_byte, opens, name_form, name, dots, part}
 use Rattle.text.specs.Cuts.{marks, onto, parted, fields}
 use Rattle.text.specs.Paths.{rooted, path}
 use Rattle.text.specs.declared.cuts.Mark.TheVariants.{Slash}
@@ -16,68 +17,59 @@ abbrev pub Visible : ℕ → Type 0
 Visible b = (33 ≤ b) × (b ≤ 126)
 
 abbrev pub Solid : List ℕ → Type 0
-Solid bs = AllByRecursion Visible bs
+Solid bs = All Visible bs
 
-within_range : (a z b : ℕ) → within a z b ≡ true → (a ≤ b) × (b ≤ z)
-within_range a z b e = let h = and_parts (leb a b) (leb b z) e in (leb-true a b h.0, leb-true b z h.1)
+Visible-within : (b : ℕ) → within 33 126 b ≡ true → Visible b
+Visible-within b e = let h = and_parts (leb 33 b) (leb b 126) e in (leb-true 33 b h.0, leb-true b 126 h.1)
 
-Visible-name_byte : (b : ℕ) → name_byte b ≡ true → Visible b
-Visible-name_byte b e = within_range 33 126 b (and_parts _ _ e).0
-
-Solid-name_bytes : (bs : List ℕ) → all name_byte bs ≡ true → Solid bs
-Solid-name_bytes [] e = tt
-Solid-name_bytes (b ∷ bs) e = let h = and_parts (name_byte b) (all name_byte bs) e in (Visible-name_byte b h.0, Solid-name_bytes bs h.1)
-
-named_bytes : (bs : List ℕ) → name bs ≡ true → all name_byte bs ≡ true
-named_bytes bs e = (and_parts (leb (length bs) 31 && opens bs) (all name_byte bs) e).1
+-- fixed pieces, looked through by computing
+pub solid_piece : (bs : List ℕ) → list_all (within 33 126) bs ≡ true → Solid bs
+solid_piece bs e = All-weaker (λ b. within 33 126 b ≡ true) Visible Visible-within bs (AllPass-from_list_all (within 33 126) bs e)
 
 pub solid_name : (bs : List ℕ) → name bs ≡ true → Solid bs
-solid_name bs e = Solid-name_bytes bs (named_bytes bs e)
+solid_name bs e =
+    All-weaker (λ b. name_byte b ≡ true) Visible (λ b h. Visible-within b (and_parts _ _ h).0) bs
+    (AllPass-from_list_all name_byte bs (and_parts (opens bs) (list_all name_byte bs) (and_parts (leb (length bs) 31) (name_form bs) e).1).1)
 
 -- what stands between slashes
 abbrev pieces : List ℕ → List (List ℕ)
 pieces bs = parted ([] ∷ []) (marks Slash) bs
 
-onto-bytes : (b : ℕ) (ls : List (List ℕ)) → all (all name_byte) (onto b ls) ≡ true → Visible b × (all (all name_byte) ls ≡ true)
-onto-bytes b [] e = (Visible-name_byte b (and_parts _ _ (and_parts _ _ e).0).0, refl)
-onto-bytes b (l ∷ ls) e =
-    let h = and_parts (name_byte b && all name_byte l) (all (all name_byte) ls) e in
-    let k = and_parts (name_byte b) (all name_byte l) h.0 in
-    (Visible-name_byte b k.0, ap (λ v. v && all (all name_byte) ls) k.1 ∙ h.1)
+onto-solid : (b : ℕ) (ls : List (List ℕ)) → All Solid (onto b ls) → Visible b × All Solid ls
+onto-solid b [] h = (All-head Visible b [] (All-head Solid (b ∷ []) [] h), All-nil Solid)
+onto-solid b (l ∷ ls) h =
+    let first : Solid (b ∷ l) = All-head Solid (b ∷ l) ls h in
+    (All-head Visible b l first, All-cons Solid l ls (All-tail Visible b l first) (All-tail Solid (b ∷ l) ls h))
 
-piece_bytes : (bs : List ℕ) → all (all name_byte) (pieces bs) ≡ true → Solid bs
-piece_bytes [] e = tt
-piece_bytes (b ∷ bs) e = go (eqb b 47) refl e (piece_bytes bs) where
-  go : (t : Bool) → eqb b 47 ≡ t → all (all name_byte) (cond t ([] ∷ pieces bs) (onto b (pieces bs))) ≡ true → (all (all name_byte) (pieces bs) ≡ true → Solid bs) → Solid (b ∷ bs)
-  go true is e rest = let q = eqb-true b 47 is in ((omega arith, omega arith), rest e)
-  go false is e rest = let h = onto-bytes b (pieces bs) e in (h.0, rest h.1)
+solid_pieces : (bs : List ℕ) → All Solid (pieces bs) → Solid bs
+solid_pieces [] h = All-nil Visible
+solid_pieces (b ∷ bs) h = go (eqb b 47) refl h (solid_pieces bs) where
+  go : (t : Bool) → eqb b 47 ≡ t → All Solid (cond t ([] ∷ pieces bs) (onto b (pieces bs))) → (All Solid (pieces bs) → Solid bs) → Solid (b ∷ bs)
+  go true is h rest = let q = eqb-true b 47 is in All-cons Visible b bs (omega arith, omega arith) (rest (All-tail Solid [] (pieces bs) h))
+  go false is h rest = let k = onto-solid b (pieces bs) h in All-cons Visible b bs k.0 (rest k.1)
 
-parts_bytes : (ls : List (List ℕ)) → all part ls ≡ true → all (all name_byte) ls ≡ true
-parts_bytes [] e = refl
-parts_bytes (l ∷ ls) e =
-    let h = and_parts (part l) (all part ls) e in
-    ap (λ v. v && all (all name_byte) ls) (named_bytes l (and_parts (name l) (not (dots l)) h.0).0) ∙ parts_bytes ls h.1
+solid_parts : (ls : List (List ℕ)) → list_all part ls ≡ true → All Solid ls
+solid_parts ls e = All-weaker (λ l. part l ≡ true) Solid (λ l h. solid_name l (and_parts (name l) (not (dots l)) h).0) ls (AllPass-from_list_all part ls e)
 
-rooted-bytes : (bs : List ℕ) → rooted bs ≡ true → Solid bs
-rooted-bytes [] e = tt
-rooted-bytes (b ∷ bs) e =
-    let h = and_parts (eqb b 47) (all part (fields Slash bs)) e in
+solid_rooted : (bs : List ℕ) → rooted bs ≡ true → Solid bs
+solid_rooted [] e = All-nil Visible
+solid_rooted (b ∷ bs) e =
+    let h = and_parts (eqb b 47) (list_all part (fields Slash bs)) e in
     let q = eqb-true b 47 h.0 in
-    ((omega arith, omega arith), piece_bytes bs (parts_bytes (fields Slash bs) h.1))
+    All-cons Visible b bs (omega arith, omega arith) (solid_pieces bs (solid_parts (fields Slash bs) h.1))
 
 pub solid_path : (bs : List ℕ) → path bs ≡ true → Solid bs
 solid_path bs e = ⊎_elim
-    (λ s. let q : codes "/" ≡ bs = sym ((bytes_eq-Decides bs (codes "/")).0 s) in let P : List ℕ → Type 0 = Solid in rw (← q) ((omega arith, omega arith), tt))
-    (λ r. rooted-bytes bs r)
+    (λ s. let q : codes "/" ≡ bs = sym ((bytes_eq-Decides bs (codes "/")).0 s) in let P : List ℕ → Type 0 = Solid in rw (← q) (solid_piece (codes "/") refl))
+    (λ r. solid_rooted bs r)
     (or_cases _ _ (and_parts _ _ e).1)
 
 pub solid_decimal : (n : ℕ) → n < 2 ^ 64 → Solid (decimal n)
-solid_decimal n h = decimal_by_steps (λ _ ds. Solid ds) (λ m lt. ((omega arith, omega arith), tt)) (λ m ds big e. All-append Visible ds ((48 + m % 10) ∷ []) e ((omega arith, omega arith), tt)) n h
+solid_decimal n h =
+    decimal_by_steps (λ _ ds. Solid ds)
+    (λ m lt. All-cons Visible (48 + m) [] (omega arith, omega arith) (All-nil Visible))
+    (λ m ds big e. All-push Visible ds (48 + m % 10) e (omega arith, omega arith))
+    n h
 
-pub printable : (bs : List ℕ) → Solid bs → AllByRecursion Printable bs
+pub printable : (bs : List ℕ) → Solid bs → All Printable bs
 printable bs s = All-weaker Visible Printable (λ b v. (omega arith, omega arith)) bs s
-
--- fixed pieces of a form, looked through by computing
-pub printable_piece : (bs : List ℕ) → all (within 32 126) bs ≡ true → AllByRecursion Printable bs
-printable_piece [] e = tt
-printable_piece (b ∷ bs) e = let h = and_parts (within 32 126 b) (all (within 32 126) bs) e in (within_range 32 126 b h.0, printable_piece bs h.1)

@@ -1,6 +1,6 @@
 -- A form, split at its blanks. Assumes nothing.
 use Rattle.std.proofs.Common.{◌≡◌, ℕ, ◌^◌, ◌<◌, Bool, ltb, List, [], ◌∷◌, ◌++◌, codes, decimal, sym, refl, ap, ◌∙◌, append_assoc, arith}
-use Rattle.std.proofs.ByRecursion.{All-append}
+use Rattle.std.proofs.lemmas.List.Elements.{All-head, All-tail, All-push}
 use Rattle.std.proofs.lemmas.Bool.{le-ltb, cond-false}
 use Rattle.text.specs.Cuts.{parted, onto}
 use Rattle.forms.specs.Forms.{name_form, number_form, group_form, write_form, replace_form}
@@ -14,14 +14,14 @@ split bs = parted ([] ∷ []) blank bs
 
 split_word : (w r : List ℕ) → Solid w → split (w ++ 32 ∷ r) ≡ w ∷ split r
 split_word [] r h = refl
-split_word (b ∷ w) r h = cond-false (blank b) _ _ (le-ltb b 33 h.0.0) ∙ ap (onto b) (split_word w r h.1)
+split_word (b ∷ w) r h = cond-false (blank b) _ _ (le-ltb b 33 (All-head Visible b w h).0) ∙ ap (onto b) (split_word w r (All-tail Visible b w h))
 
 split_last : (w : List ℕ) → Solid w → split w ≡ w ∷ []
 split_last [] h = refl
-split_last (b ∷ w) h = cond-false (blank b) _ _ (le-ltb b 33 h.0.0) ∙ ap (onto b) (split_last w h.1)
+split_last (b ∷ w) h = cond-false (blank b) _ _ (le-ltb b 33 (All-head Visible b w h).0) ∙ ap (onto b) (split_last w (All-tail Visible b w h))
 
 split_closed : (w r : List ℕ) → Solid w → split (w ++ 41 ∷ 32 ∷ r) ≡ (w ++ 41 ∷ []) ∷ split r
-split_closed w r h = ap split (sym (append_assoc w (41 ∷ []) (32 ∷ r))) ∙ split_word (w ++ 41 ∷ []) r (All-append Visible w (41 ∷ []) h ((omega arith, omega arith), tt))
+split_closed w r h = ap split (sym (append_assoc w (41 ∷ []) (32 ∷ r))) ∙ split_word (w ++ 41 ∷ []) r (All-push Visible w 41 h (omega arith, omega arith))
 
 -- the words of each form
 pub name-words : (n h : List ℕ) → Solid n → Solid h → split (name_form n h) ≡ codes "Become" ∷ codes "user" ∷ codes "named" ∷ n ∷ codes "at" ∷ h ∷ []

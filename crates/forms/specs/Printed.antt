@@ -1,6 +1,7 @@
 -- What the privileges of a site print, by number. Assumes nothing.
-use Rattle.std.specs.Prelude.{ℕ, cond, List, [], Some, None, Option, ◌==◌}
+use Rattle.std.specs.Prelude.{ℕ, cond, List, [], Option, ◌==◌}
 use Rattle.std.specs.List.{slice_get}
+use Rattle.std.specs.Option.{option_map_or}
 use Rattle.rules.specs.Names.{WellNamed}
 use Rattle.region.specs.Privileges.{decoded}
 use Rattle.region.specs.Sound.{Sound}
@@ -13,8 +14,7 @@ use Rattle.forms.specs.Forms.{name_form, number_form, group_form, write_form, re
 
 -- what an entry prints that is there
 abbrev pub printed : {X : Type 0} → Option X → (X → List ℕ) → List ℕ
-printed None form = []
-printed (Some x) form = form x
+printed o form = option_map_or form o []
 
 -- what a right prints at a host
 abbrev pub right_form : HostTables → Right → List ℕ

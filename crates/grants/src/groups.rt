@@ -1,58 +1,61 @@
 // The slots of a group, and the NIS maps.
-ghost use Rattle.std.specs.Prelude.{◌≡◌, ℕ, ◌-◌, ◌<◌, map};
+ghost use Rattle.std.specs.Prelude.{◌≡◌, ℕ, ◌-◌, ◌<◌, IfSome};
 ghost use Rattle.std.specs.List.{slice_get};
 ghost use Rattle.text.specs.Bytes.{and_then};
+ghost use Rattle.text.specs.Kept.{name_bytes};
 ghost use Rattle.tables.specs.Rows.{group_entry};
-ghost use Rattle.allows.specs.Slots.{by_nis_map, by_member, group_slot};
-ghost use Rattle.host.specs.Tables.{host_tables};
+ghost use Rattle.allows.specs.Paths.{nis_map};
+ghost use Rattle.allows.specs.Slots.{row_of, by_nis_map, by_member, group_slot};
+ghost use Rattle.grants.specs.Tables.{site_of, tables_of};
 
-use crate::entries::{host_at, nis_row};
-use crate::files::by_number;
-use crate::fixed::{GROUP_ROW, grant};
-use host::Host;
-use lookups::belongs;
+use crate::places::HostAt;
+use lookups::{belongs, nis_row};
 use region::Right;
 use tables::Group;
+use text::Name;
 
-// To replace a NIS map at the server of the host's domain grants.
-pub fn by_nis_map(hosts: &[Host], t: &Host, file: &[u8], rule: u8) -> Option<(u16, u8)>
-    ensures { result ≡ by_nis_map (map host_tables hosts.now) (host_tables t.now) file.now rule }
-{
-    let Some(domain) = t.domain() else {
-        return None;
-    };
-    let Some(server) = host_at(hosts, domain.server) else {
-        return None;
-    };
-    let Some(r) = nis_row(server, &domain.name, file) else {
-        return None;
-    };
-    grant(domain.server, Right::Replace(r), rule)
-}
+// The row of /etc/group.
+const GROUP_ROW: u8 = 3;
 
-// Rule 23: the number of account i, if it belongs to the group.
-fn by_member(t: &Host, h: u8, b: &Group, i: u8) -> Option<(u16, u8)>
-    ensures { result ≡ by_member (host_tables t.now) h (group_entry b.now) i }
-{
-    let Some(a) = t.account(i as usize) else {
-        return None;
-    };
-    if !belongs(b, i, a) {
-        return None;
+impl HostAt<'_> {
+    // The row of a NIS map of a domain, present or not.
+    fn nis_row(self, domain: &Name, file: &[u8]) -> Option<usize>
+        ensures place { result ≡ row_of (tables_of self.entry) (nis_map (name_bytes domain.now) file.now) }
+        ensures bound { IfSome result (λ r. r < 64) }
+    {
+        nis_row(self.tables.files(), domain, file)
     }
-    by_number(t, h, a.number, 23)
-}
 
-// Rules 21 to 23, of a group.
-pub fn group_slot(hosts: &[Host], t: &Host, h: u8, j: u8, k: u8) -> Option<(u16, u8)>
-    ensures { result ≡ and_then (slice_get (host_tables t.now).groups j) (λ b. group_slot (map host_tables hosts.now) (host_tables t.now) h b k) }
-{
-    let Some(b) = t.group(j as usize) else {
-        return None;
-    };
-    match k {
-        0 => grant(h, Right::Replace(GROUP_ROW), 21),
-        1 => by_nis_map(hosts, t, b"/group.bygid.pag", 22),
-        _ => by_member(t, h, b, k - 2),
+    // To replace a NIS map at the server of the host's domain grants.
+    pub fn by_nis_map(self, file: &[u8], rule: u8) -> Option<(u16, u8)>
+        ensures { result ≡ by_nis_map (site_of self.entry) (tables_of self.entry) file.now rule }
+    {
+        let domain = self.tables.domain()?;
+        let server = HostAt::new(self.hosts, domain.server)?;
+        let r = server.nis_row(&domain.name, file)?;
+        server.grant(Right::Replace(r as u8), rule)
+    }
+
+    // Rule 23: the number of account i, if it belongs to the group.
+    fn by_member(self, group: &Group, i: u8) -> Option<(u16, u8)>
+        ensures { result ≡ by_member (tables_of self.entry) self.entry.place (group_entry group.now) i }
+    {
+        let account = self.tables.account(i as usize)?;
+        if !belongs(group, i as usize, account) {
+            return None;
+        }
+        self.by_number(account.number, 23)
+    }
+
+    // Rules 21 to 23, of a group.
+    pub fn group_slot(self, j: u8, k: u8) -> Option<(u16, u8)>
+        ensures { result ≡ and_then (slice_get (tables_of self.entry).groups j) (λ b. group_slot (site_of self.entry) (tables_of self.entry) self.entry.place b k) }
+    {
+        let group = self.tables.group(j as usize)?;
+        match k {
+            0 => self.grant(Right::Replace(GROUP_ROW), 21),
+            1 => self.by_nis_map(b"/group.bygid.pag", 22),
+            _ => self.by_member(group, k - 2),
+        }
     }
 }

@@ -3,30 +3,30 @@ ghost use Rattle.std.specs.Prelude.{◌≡◌, ◌<◌, ◌≤◌, map};
 ghost use Rattle.allows.specs.Slots.{right_slot};
 ghost use Rattle.allows.specs.Source.{ruled_slot, site_slot};
 ghost use Rattle.host.specs.Tables.{host_tables};
+ghost use Rattle.grants.specs.Tables.{site_of, tables_of};
 
-use crate::entries::host_at;
-use crate::files::{replace_slot, write_slot};
-use crate::groups::group_slot;
 use crate::lives::is_live;
-use crate::numbers::{name_slot, number_slot};
-use crate::others::{any_slot, root_slot};
+use crate::others::root_slot;
+use crate::places::HostAt;
 use host::Host;
-use region::{ROOT_ANYWHERE, Right, decode};
+use region::{Privilege, ROOT_ANYWHERE, Right};
 
 // No privilege has more slots.
-pub const WIDTH: u16 = 140;
+const WIDTH: u16 = 140;
 
-// What slot k of a right at host h holds, whose tables are t.
-fn right_slot(hosts: &[Host], t: &Host, h: u8, right: Right, k: u8) -> Option<(u16, u8)>
-    ensures { result ≡ right_slot (map host_tables hosts.now) (host_tables t.now) h right k }
-{
-    match right {
-        Right::AnyUser => any_slot(t, h, k),
-        Right::Name(i) => name_slot(t, h, i, k),
-        Right::Number(i) => number_slot(hosts, t, h, i, k),
-        Right::Group(j) => group_slot(hosts, t, h, j, k),
-        Right::Write(r) => write_slot(t, h, r, k),
-        Right::Replace(r) => replace_slot(t, h, r, k),
+impl HostAt<'_> {
+    // What slot k of a right at the host holds. The rules give each kind of right its slots by number, so a match on the number is their table.
+    fn right_slot(self, right: Right, k: u8) -> Option<(u16, u8)>
+        ensures { result ≡ right_slot (site_of self.entry) (tables_of self.entry) self.entry.place right k }
+    {
+        match right {
+            Right::AnyUser => self.any_slot(k),
+            Right::Name(i) => self.account(i)?.name_slot(k),
+            Right::Number(i) => self.account(i)?.number_slot(k),
+            Right::Group(j) => self.group_slot(j, k),
+            Right::Write(r) => self.write_slot(r, k),
+            Right::Replace(r) => self.replace_slot(r, k),
+        }
     }
 }
 
@@ -37,13 +37,8 @@ fn ruled_slot(hosts: &[Host], g: u16, k: u8) -> Option<(u16, u8)>
     if g == ROOT_ANYWHERE {
         return root_slot(hosts, k);
     }
-    let Some(x) = decode(g) else {
-        return None;
-    };
-    let Some(t) = host_at(hosts, x.host) else {
-        return None;
-    };
-    right_slot(hosts, t, x.host, x.right, k)
+    let x = Privilege::try_from(g).ok()?;
+    HostAt::new(hosts, x.host)?.right_slot(x.right, k)
 }
 
 // What slot k of the privilege g holds: nothing from 140 on, nor where one of the two privileges is not live.
@@ -56,9 +51,5 @@ pub fn live_slot(hosts: &[Host], g: u16, k: u16) -> Option<(u16, u8)>
     let Some((p, rule)) = ruled_slot(hosts, g, k as u8) else {
         return None;
     };
-    if is_live(hosts, g) && is_live(hosts, p) {
-        Some((p, rule))
-    } else {
-        None
-    }
+    (is_live(hosts, g) && is_live(hosts, p)).then_some((p, rule))
 }

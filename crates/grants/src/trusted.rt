@@ -1,79 +1,69 @@
-// Whom a host lets in without a password.
+// Whom an account lets in without a password.
 ghost use Rattle.std.specs.Prelude.{◌≡◌, ℕ, map};
-ghost use Rattle.region.specs.Places.{some_passes};
-ghost use Rattle.tables.specs.Rows.{account_entry};
+ghost use Rattle.std.specs.List.{list_any};
 ghost use Rattle.trust.specs.Rows.{trust_entry};
 ghost use Rattle.allows.specs.Slots.{by_trust};
 ghost use Rattle.allows.specs.Trust.{line_fits, own_rhosts, by_equiv, by_rhosts, trusting_rule};
-ghost use Rattle.host.specs.Tables.{host_tables};
+ghost use Rattle.grants.specs.Tables.{site_of, tables_of, entry_of};
 
-use crate::entries::{home_row, host_at};
-use crate::fixed::grant;
-use host::Host;
+use crate::places::{AccountAt, HostAt};
 use lookups::{owned_by, some_line_fits};
 use region::Right;
-use tables::Account;
 use trust::TrustLine;
 
-// Whether the .rhosts in the home of an account is present and is owned by the account's number.
-fn has_own_rhosts(t: &Host, a: &Account) -> bool
-    ensures { result ≡ own_rhosts (host_tables t.now) (account_entry a.now) }
-{
-    let Some(r) = home_row(t, a, b"/.rhosts") else {
-        return false;
-    };
-    let Some(row) = t.file(r as usize) else {
-        return false;
-    };
-    owned_by(a.number, row.stat)
-}
-
-// Whether some line lets the account b of s into a.
-fn is_let_in(lines: &[TrustLine], a: &Account, s: &Host, b: &Account) -> bool
-    ensures { result ≡ some_passes (line_fits (host_tables s.now) (account_entry b.now) (account_entry a.now)) (map trust_entry lines.now) }
-{
-    some_line_fits(lines, s.name(), &b.name, &a.name)
-}
-
-// Whether hosts.equiv of t lets the account b of s into a, which it never does into number 0.
-fn is_let_in_by_equiv(t: &Host, a: &Account, s: &Host, b: &Account) -> bool
-    ensures { result ≡ by_equiv (host_tables t.now) (account_entry a.now) (host_tables s.now) (account_entry b.now) }
-{
-    a.number != 0 && is_let_in(t.equiv(), a, s, b)
-}
-
-// Whether the .rhosts of account i of t, which is a, lets the account b of s in.
-fn is_let_in_by_rhosts(t: &Host, i: u8, a: &Account, s: &Host, b: &Account) -> bool
-    ensures { result ≡ by_rhosts (host_tables t.now) i (account_entry a.now) (host_tables s.now) (account_entry b.now) }
-{
-    is_let_in(t.rhosts(i as usize), a, s, b) && has_own_rhosts(t, a)
-}
-
-// The rule by which b of s is let into account i of t, which is a.
-fn trusting_rule(t: &Host, i: u8, a: &Account, s: &Host, b: &Account) -> Option<u8>
-    ensures { result ≡ trusting_rule (host_tables t.now) i (account_entry a.now) (host_tables s.now) (account_entry b.now) }
-{
-    if is_let_in_by_equiv(t, a, s, b) {
-        return Some(10);
+impl AccountAt<'_> {
+    // Whether the .rhosts in the home is present and is owned by the account's number.
+    fn has_own_rhosts(self) -> bool
+        ensures { result ≡ own_rhosts (tables_of self.entry.host) (entry_of self.entry) }
+    {
+        self.home_row(b"/.rhosts")
+            .and_then(|r| self.host.tables.file(r))
+            .is_some_and(|row| owned_by(self.account.number, row.stat))
     }
-    if is_let_in_by_rhosts(t, i, a, s, b) {
-        return Some(11);
-    }
-    None
-}
 
-// Rules 10 and 11: the name of account j of host n, if it is let into account i of t, which is a.
-pub fn by_trust(hosts: &[Host], t: &Host, i: u8, a: &Account, n: u8, j: u8) -> Option<(u16, u8)>
-    ensures { result ≡ by_trust (map host_tables hosts.now) (host_tables t.now) i (account_entry a.now) n j }
-{
-    let Some(s) = host_at(hosts, n) else {
-        return None;
-    };
-    let Some(b) = s.account(j as usize) else {
-        return None;
-    };
-    let Some(rule) = trusting_rule(t, i, a, s, b) else {
-        return None;
-    };
-    grant(n, Right::Name(j), rule)
+    // Whether some line lets the user in.
+    fn is_let_in(self, lines: &[TrustLine], user: AccountAt) -> bool
+        ensures { result ≡ list_any (line_fits (tables_of user.entry.host) (entry_of user.entry) (entry_of self.entry)) (map trust_entry lines.now) }
+    {
+        some_line_fits(
+            lines,
+            user.host.tables.name(),
+            &user.account.name,
+            &self.account.name,
+        )
+    }
+
+    // Whether hosts.equiv lets the user in, which it never does into number 0.
+    fn is_let_in_by_equiv(self, user: AccountAt) -> bool
+        ensures { result ≡ by_equiv (tables_of self.entry.host) (entry_of self.entry) (tables_of user.entry.host) (entry_of user.entry) }
+    {
+        self.account.number != 0 && self.is_let_in(self.host.tables.equiv(), user)
+    }
+
+    // Whether the account's .rhosts lets the user in.
+    fn is_let_in_by_rhosts(self, user: AccountAt) -> bool
+        ensures { result ≡ by_rhosts (tables_of self.entry.host) self.entry.place (entry_of self.entry) (tables_of user.entry.host) (entry_of user.entry) }
+    {
+        self.is_let_in(self.host.tables.rhosts(self.place as usize), user) && self.has_own_rhosts()
+    }
+
+    // The rule by which the user is let in.
+    fn trusting_rule(self, user: AccountAt) -> Option<u8>
+        ensures { result ≡ trusting_rule (tables_of self.entry.host) self.entry.place (entry_of self.entry) (tables_of user.entry.host) (entry_of user.entry) }
+    {
+        if self.is_let_in_by_equiv(user) {
+            return Some(10);
+        }
+        self.is_let_in_by_rhosts(user).then_some(11)
+    }
+
+    // Rules 10 and 11: the name of account j of host n, if it is let in.
+    pub fn by_trust(self, n: u8, j: u8) -> Option<(u16, u8)>
+        ensures { result ≡ by_trust (site_of self.entry.host) (tables_of self.entry.host) self.entry.place (entry_of self.entry) n j }
+    {
+        let host = HostAt::new(self.host.hosts, n)?;
+        let user = host.account(j)?;
+        let rule = self.trusting_rule(user)?;
+        host.grant(Right::Name(j), rule)
+    }
 }

@@ -1,4 +1,2 @@
-pub mod Fills
 pub mod Scans
-pub mod RhostsReads
 pub mod Sounds

@@ -1,25 +1,15 @@
--- Looking through a table, one entry on and at the end. Assumes nothing.
-use Rattle.std.proofs.Common.{◌≡◌, ℕ, zero, suc, ◌+◌, ◌<◌, ◌≤◌, true, false, ◌||◌, List, [], ◌∷◌, map, length, get_or, drop, sym, refl, ap, ◌∙◌, arith}
-use Rattle.std.proofs.lemmas.List.{drop_more, drop_all, get_or-map}
-use Rattle.region.specs.Tables.{AccountEntry, HostTables}
-use Rattle.host.specs.Wanted.{wants_rhosts_of, wants_rhosts}
+-- Looking through the entries of a table, and lists whose items all look alike. Assumes nothing.
+use Rattle.std.proofs.Common.{◌≡◌, ℕ, zero, suc, ◌+◌, ◌<◌, Bool, List, [], ◌∷◌, ◌||◌, map, length, get_or, replicate, refl, ap, ◌∙◌, arith}
+use Rattle.std.specs.List.{list_any, enumerate_from}
 
-module _ {X Y : Type 0} (view : X → Y) where
-  -- what stands at a place of a list, seen as an entry of a table
-  pub entry-or : (xs : List X) (i : ℕ) (d : Y) (x : X) → i < length xs → x ≡ get_or xs i x → view x ≡ get_or (map view xs) i d
-  entry-or xs i d x lt is = ap view is ∙ sym (get_or-map view xs i x d lt)
+-- a test of rows with their places, and of the entries that they are
+pub any-numbered : {X Y : Type 0} (view : X → Y) (test : ℕ × Y → Bool) (n : ℕ) (xs : List X) → list_any (λ p. test (p.0, view p.1)) (enumerate_from n xs) ≡ list_any test (enumerate_from n (map view xs))
+any-numbered view test n [] = refl
+any-numbered view test n (x ∷ xs) = ap (λ b. test (n, view x) || b) (any-numbered view test (n + 1) xs)
 
-  pub past-entries : (xs : List X) (i : ℕ) (d : Y) → length xs ≤ i → get_or (map view xs) i d ≡ d
-  past-entries [] i d le = refl
-  past-entries (x ∷ xs) zero d le = absurd (omega arith)
-  past-entries (x ∷ xs) (suc i) d le = past-entries xs i d (omega arith)
-
-module _ {X : Type 0} (view : X → AccountEntry) (t : HostTables) (xs : List X) (i : ℕ) where
-  pub wanted-here : (x : X) → i < length xs → x ≡ get_or xs i x → wants_rhosts_of t i (view x) ≡ true → wants_rhosts t i (map view (drop i xs)) ≡ true
-  wanted-here x h e k = rw (drop_more xs i x h, ← e) (ap (λ b. b || wants_rhosts t (i + 1) (map view (drop (i + 1) xs))) k)
-
-  pub wanted-later : (x : X) → i < length xs → x ≡ get_or xs i x → wants_rhosts_of t i (view x) ≡ false → wants_rhosts t i (map view (drop i xs)) ≡ wants_rhosts t (i + 1) (map view (drop (i + 1) xs))
-  wanted-later x h e k = rw (drop_more xs i x h, ← e) (ap (λ b. b || wants_rhosts t (i + 1) (map view (drop (i + 1) xs))) k)
-
-  pub wanted-nowhere : length xs ≤ i → wants_rhosts t i (map view (drop i xs)) ≡ false
-  wanted-nowhere h = rw (drop_all i xs h)
+-- n items that all look alike
+pub all-alike : {X Y : Type 0} (view : X → Y) (v : Y) (n : ℕ) (xs : List X) → length xs ≡ n → ((i : ℕ) (d : X) → i < n → view (get_or xs i d) ≡ v) → map view xs ≡ replicate n v
+all-alike view v zero [] e h = refl
+all-alike view v (suc n) [] e h = absurd (omega arith)
+all-alike view v zero (x ∷ xs) e h = absurd (omega arith)
+all-alike view v (suc n) (x ∷ xs) e h = ap (λ y. y ∷ map view xs) (h 0 x (omega arith)) ∙ ap (λ ys. v ∷ ys) (all-alike view v n xs (omega arith) (λ i d l. h (suc i) d (omega arith)))

@@ -7,4 +7,4 @@ use Rattle.host.specs.declared.host.Host.{Host}
 use Rattle.host.specs.Tables.{host_tables}
 
 pub host_sound : (h : Host) → OwnName (host_tables h).name → HostSound (host_tables h)
-host_sound h own = record { named = own; accounts = accounts_sound h.accounts; groups = groups_sound h.groups; files = files_sound h.files }
+host_sound h own = record { named = own; accounts = accounts_sound h.accounts.table; groups = groups_sound h.groups.table; files = files_sound h.files.table }

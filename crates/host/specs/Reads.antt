@@ -6,9 +6,8 @@ use Rattle.reading.specs.declared.fault.LineFault.{LineFault}
 use Rattle.reading.specs.declared.fault.TextFault.{TextFault}
 use Rattle.reading.specs.declared.fault.Refusal.TheVariants.{TooLong, OutOfTurn, Unknown}
 use Rattle.reading.specs.Faults.{fault, in_text}
-use Rattle.reading.specs.Reads.{needs, and_then, value_or}
+use Rattle.reading.specs.Reads.{and_then, value_or, text_told}
 use Rattle.region.specs.Tables.{TrustEntry, HostTables}
-use Rattle.tables.specs.Steps.{text_told}
 use Rattle.tables.specs.PasswdText.{accounts_in}
 use Rattle.tables.specs.GroupText.{groups_in}
 use Rattle.listing.specs.Rows.{absent_rows}
@@ -75,7 +74,7 @@ abbrev pub has_account : HostTables → ℕ → Bool
 has_account t i = nat_lt i (length t.accounts)
 
 abbrev pub rhosts_in : HostTables → ℕ → List ℕ → Result (List TrustEntry) LineFault
-rhosts_in t i bs = needs Unknown 0 (has_account t i) (trust_in 4 bs)
+rhosts_in t i bs = cond (has_account t i) (trust_in 4 bs) (Err (fault Unknown 0))
 
 abbrev pub rhosts_answer : ℕ → HostTables → List ℕ → Result (Unit {0}) TextFault
 rhosts_answer i t bs = answered Rhosts bs (rhosts_turn t i) (rhosts_in t i bs)

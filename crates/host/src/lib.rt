@@ -2,8 +2,9 @@
 #![tactic(auto)]
 
 mod host;
-mod rhosts;
+mod text_table;
 mod turn;
 
 pub use host::Host;
+pub use text_table::TextTable;
 pub use turn::in_turn;

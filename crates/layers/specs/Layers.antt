@@ -1,6 +1,6 @@
 -- Assumed grants and barred privileges over any rule source, as a change of what the source means.
-use Rattle.std.specs.Prelude.{ℕ, suc, ◌+◌, ◌-◌, min, Bool, false, cond, ◌&&◌, ◌||◌, List, [], ◌∷◌, Some, None, Option, ◌==◌, nat_lt}
-use Rattle.std.specs.List.{slice_get}
+use Rattle.std.specs.Prelude.{ℕ, ◌+◌, ◌-◌, min, Bool, cond, ◌&&◌, List, [], ◌∷◌, Some, None, Option, ◌==◌, nat_lt}
+use Rattle.std.specs.List.{slice_get, list_any}
 use Rattle.rules.specs.Rules.{Rules}
 
 -- how many assumptions there is room for: 32, or what the widest source leaves
@@ -22,16 +22,6 @@ with_assumed R ps = record {
   slot = λ g k. cond (nat_lt k R.width) (R.slot g k) (cond (nat_lt k (R.width + room R)) (granted R.live g (slice_get ps (k - R.width))) None);
 }
 
--- the place of the first element that passes, or the length where none does
-abbrev pub at_first : {X : Type 0} → (X → Bool) → List X → ℕ
-at_first t [] = 0
-at_first t (x ∷ xs) = cond (t x) 0 (suc (at_first t xs))
-
--- an element passes
-abbrev pub some : {X : Type 0} → (X → Bool) → List X → Bool
-some t [] = false
-some t (x ∷ xs) = t x || some t xs
-
 -- the list without the first element that passes; later ones move down
 abbrev pub without : {X : Type 0} → (X → Bool) → List X → List X
 without t [] = []
@@ -45,7 +35,7 @@ is_pair p g x = x.0 == p && x.1 == g
 
 -- p is barred
 abbrev pub member : ℕ → List ℕ → Bool
-member p bs = some (is_bar p) bs
+member p bs = list_any (is_bar p) bs
 
 -- what a slot holds, but nothing where that is barred
 abbrev pub unless_barred : List ℕ → Option (ℕ × ℕ) → Option (ℕ × ℕ)

@@ -1,10 +1,11 @@
-ghost use Rattle.std.specs.Prelude.{◌≡◌, ◌+◌, ◌<◌, ◌≤◌, ◌&&◌, [], ◌∷◌, ◌++◌, length, is_ok, IfOk, if◌then◌else◌, Some, vec_len, vec_capacity, nat_lt};
-ghost use Rattle.std.specs.List.{slice_get};
-ghost use Rattle.layers.specs.Layers.{room, at_first, some, is_pair, without, granted, with_assumed};
+ghost use Rattle.std.specs.Prelude.{◌≡◌, ◌&&◌, [], ◌∷◌, ◌++◌, is_ok, IfOk, if◌then◌else◌, slice_get};
+ghost use Rattle.layers.specs.Layers.{room, is_pair, without, granted, with_assumed};
 ghost use Rattle.layers.specs.Layered.{assumed_lawful};
 ghost use Rattle.layers.specs.Answers.{assume_answer, withdraw_answer};
 
+use crate::entries::{enter, take_out};
 use crate::refusal::Refusal;
+use bounded::BoundedVec;
 use rules::source::RuleSource;
 use std::alloc::{AllocError, Global};
 
@@ -12,15 +13,13 @@ use std::alloc::{AllocError, Global};
 #[derive(Drop)]
 pub struct Assumed<S> {
     pub source: S,
-    pub(crate) pairs: Vec<(u16, u16)>,
-    ghost few: { vec_len pairs ≤ 32 },
-    ghost space: { 32 ≤ vec_capacity pairs },
+    pub(crate) pairs: BoundedVec<(u16, u16), 32>,
 }
 
 impl<S: RuleSource> RuleSource for Assumed<S> {
-    ghost meaning = { λ s. with_assumed (S.RuleSource.meaning s.source) s.pairs.items };
+    ghost meaning = { λ s. with_assumed (S.RuleSource.meaning s.source) s.pairs };
 
-    ghost lawful = { λ s. assumed_lawful (S.RuleSource.meaning s.source) s.pairs.items (S.RuleSource.lawful s.source) };
+    ghost lawful = { λ s. assumed_lawful (S.RuleSource.meaning s.source) s.pairs (S.RuleSource.lawful s.source) };
 
     fn count(&self) -> u16 {
         self.source.count()
@@ -50,26 +49,6 @@ impl<S: RuleSource> RuleSource for Assumed<S> {
     }
 }
 
-fn is_pair(x: (u16, u16), p: u16, g: u16) -> bool
-    ensures { result ≡ is_pair p g x }
-{
-    (x.0 == p) & (x.1 == g)
-}
-
-// Where the pair stands first in the list, or the list's length.
-fn find_pair(list: &[(u16, u16)], p: u16, g: u16) -> usize
-    ensures { result ≡ at_first (is_pair p g) list.now }
-{
-    let mut i = 0;
-    for x in list {
-        if is_pair(*x, p, g) {
-            return i;
-        }
-        i += 1;
-    }
-    i
-}
-
 impl<S: RuleSource> Assumed<S> {
     // What lies below.
     pub fn source(&self) -> &S
@@ -82,9 +61,9 @@ impl<S: RuleSource> Assumed<S> {
     pub fn new(heap: Global, source: S) -> Result<Assumed<S>, AllocError>
     where
         S: Drop,
-        ensures { IfOk result (λ s. (s.source ≡ source) × (s.pairs.items ≡ [])) }
+        ensures { IfOk result (λ s. (s.source ≡ source) × (s.pairs ≡ [])) }
     {
-        let pairs = Vec::with_capacity(heap, 32)?;
+        let pairs = BoundedVec::new(heap)?;
         Ok(Assumed { source, pairs })
     }
 
@@ -98,73 +77,43 @@ impl<S: RuleSource> Assumed<S> {
     fn both_live(&self, p: u16, g: u16) -> bool
         ensures { result ≡ ((S.RuleSource.meaning self.now.source).live p && (S.RuleSource.meaning self.now.source).live g) }
     {
-        self.source.live(p) & self.source.live(g)
-    }
-
-    fn assumes(&self, p: u16, g: u16) -> bool
-        ensures { result ≡ some (is_pair p g) self.now.pairs.items }
-    {
-        find_pair(&self.pairs, p, g) < self.pairs.len()
-    }
-
-    fn has_room(&self) -> bool
-        ensures { result ≡ nat_lt (length self.now.pairs.items) (room (S.RuleSource.meaning self.now.source)) }
-    {
-        self.pairs.len() < self.room() as usize
+        self.source.live(p) && self.source.live(g)
     }
 
     // From now on p is assumed to grant g.
     pub fn assume(&mut self, p: u16, g: u16) -> Result<(), Refusal>
-        ensures answer { result ≡ assume_answer (S.RuleSource.meaning self.old.source) self.old.pairs.items p g }
-        ensures after { self.new.pairs.items ≡ (if is_ok result then self.old.pairs.items ++ (p, g) ∷ [] else self.old.pairs.items) }
+        ensures answer { result ≡ assume_answer (S.RuleSource.meaning self.old.source) self.old.pairs p g }
+        ensures after { self.new.pairs ≡ (if is_ok result then self.old.pairs ++ (p, g) ∷ [] else self.old.pairs) }
         ensures same { self.new.source ≡ self.old.source }
     {
         if !self.both_live(p, g) {
             return Err(Refusal::NotLive);
         }
-        if self.assumes(p, g) {
-            return Err(Refusal::AlreadyThere);
-        }
-        if !self.has_room() {
-            return Err(Refusal::NoRoom);
-        }
-        self.pairs.push_reserved((p, g));
-        Ok(())
+        let room = self.room() as usize;
+        enter(&mut self.pairs, (p, g), room)
     }
 
     // From now on p is not assumed to grant g; later assumptions move down.
     pub fn withdraw(&mut self, p: u16, g: u16) -> Result<(), Refusal>
-        ensures answer { result ≡ withdraw_answer (S.RuleSource.meaning self.old.source) self.old.pairs.items p g }
-        ensures after { self.new.pairs.items ≡ (if is_ok result then without (is_pair p g) self.old.pairs.items else self.old.pairs.items) }
+        ensures answer { result ≡ withdraw_answer (S.RuleSource.meaning self.old.source) self.old.pairs p g }
+        ensures after { self.new.pairs ≡ (if is_ok result then without (is_pair p g) self.old.pairs else self.old.pairs) }
         ensures same { self.new.source ≡ self.old.source }
     {
         if !self.both_live(p, g) {
             return Err(Refusal::NotLive);
         }
-        let i = find_pair(&self.pairs, p, g);
-        if i >= self.pairs.len() {
-            return Err(Refusal::NotThere);
-        }
-        let _ = self.pairs.remove(i);
-        Ok(())
+        take_out(&mut self.pairs, (p, g))
     }
 
     // What the assumption of number j puts into a slot of g.
     fn granted(&self, j: usize, g: u16) -> Option<(u16, u8)>
-        ensures { result ≡ granted (S.RuleSource.meaning self.now.source).live g (slice_get self.now.pairs.items j) }
+        ensures { result ≡ granted (S.RuleSource.meaning self.now.source).live g (slice_get self.now.pairs j) }
     {
-        if j >= self.pairs.len() {
-            return None;
+        let (p, to) = *self.pairs.as_slice().get(j)?;
+        if to == g && self.both_live(p, g) {
+            Some((p, 200))
+        } else {
+            None
         }
-        self.granted_by(self.pairs[j], g)
-    }
-
-    // What a pair puts into a slot of g.
-    fn granted_by(&self, pair: (u16, u16), g: u16) -> Option<(u16, u8)>
-        ensures { result ≡ granted (S.RuleSource.meaning self.now.source).live g (Some pair) }
-    {
-        let (p, to) = pair;
-        let grants = (to == g) & (self.source.live(p) & self.source.live(g));
-        if grants { Some((p, 200)) } else { None }
     }
 }

@@ -3,5 +3,6 @@
 
 pub mod assumed;
 pub mod barred;
+mod entries;
 mod forms;
 pub mod refusal;

@@ -1,83 +1,69 @@
 -- A listing that is taken lists as many rows as it has entry lines. Assumes nothing.
-use Rattle.std.proofs.Common.{◌≡◌, ℕ, zero, suc, ◌+◌, ◌<◌, Bool, true, false, cond, ltb, List, [], ◌∷◌, ◌++◌, length, set, is_some, IfOk, Ok, Err, Result, sym, refl, ap, ◌∙◌, arith}
-use Rattle.std.proofs.lemmas.Bool.{not-true, ltb-true}
+use Rattle.std.proofs.Common.{◌≡◌, ℕ, ◌+◌, ◌<◌, Bool, true, false, cond, not, List, [], ◌∷◌, ◌++◌, length, get_or, set, is_some, OnOk, Some, None, Ok, Err, filter, Option, Result, nat_lt, refl, arith}
+use Rattle.std.specs.Option.{option_and_then}
+use Rattle.std.proofs.lemmas.Bool.{not-true}
+use Rattle.std.proofs.lemmas.Grind.{common_steps}
+use Rattle.std.proofs.lemmas.List.Sums.{sum_by-set, sum_by-append}
+use Rattle.std.proofs.lemmas.List.{length-map}
+use Rattle.std.proofs.lemmas.Option.{slice_get-get_or, slice_get_within}
 use Rattle.text.specs.Cuts.{lines}
 use Rattle.region.specs.Tables.{FileEntry}
 use Rattle.reading.specs.declared.fault.Kind.{Kind}
 use Rattle.reading.specs.declared.fault.LineFault.{LineFault}
-use Rattle.reading.specs.declared.fault.Refusal.{Refusal}
-use Rattle.reading.specs.declared.fault.Refusal.TheVariants.{Full}
 use Rattle.reading.specs.declared.fault.TextFault.{TextFault}
-use Rattle.reading.specs.Reads.{needs, and_then, passed_over, read_from, value_or}
-use Rattle.listing.specs.Rows.{absent_rows, place_of, stat_at}
+use Rattle.reading.specs.declared.fault.Refusal.TheVariants.{Given, Full}
+use Rattle.reading.specs.Reads.{and_then, passed_over, gives_entry, entry_lines, at_line, read_from, value_or, text_told}
+use Rattle.listing.specs.Rows.{absent_rows, paths_of, place_of, stat_at}
 use Rattle.listing.specs.Entries.{Listed, row}
-use Rattle.listing.specs.Files.{above_of, put_step, entry_of, list_step, file_step, files_in, text_told}
-use Rattle.listing.specs.Laws.{listed_rows, entry_lines}
-use Rattle.listing.proofs.Puts.{ok_err}
+use Rattle.listing.specs.Files.{above_of, put_at, put_step, entry_of, list_step, file_step, files_in}
+use Rattle.listing.specs.Laws.{listed_rows}
+use Rattle.listing.proofs.Places.{place-entry}
+use Rattle.listing.proofs.Taken.{needs_ok, and_then_ok, at_line_ok}
 
--- what is known where something was not refused
-and_then_ok : {A B E : Type 0} (r : Result A E) (f : A → Result B E) (y : B) → and_then r f ≡ Ok y → (x : A) × (r ≡ Ok x) × (f x ≡ Ok y)
-and_then_ok (Ok x) f y e = (x, refl, e)
-and_then_ok (Err z) f y e = absurd (ok_err (sym e))
+module _ (xs : List FileEntry) (x : FileEntry) (listed : is_some x.stat ≡ true) where
+  count_set : (k : ℕ) → k < length xs → is_some (stat_at xs k) ≡ false → listed_rows (set xs k x) ≡ listed_rows xs + 1
+  count_set k within none =
+      let old : is_some (get_or xs k x).stat ≡ false = rw (slice_get-get_or xs k x within) at none in
+      let sum = sum_by-set (λ (y : FileEntry). cond (is_some y.stat) 1 0) xs k x x within in
+      omega (arith, rw (listed, old) at sum)
 
-needs_ok : {B : Type 0} (w : Refusal) (n : ℕ) (b : Bool) (r : Result B LineFault) (y : B) → needs w n b r ≡ Ok y → (b ≡ true) × (r ≡ Ok y)
-needs_ok w n true r y e = (refl, e)
-needs_ok w n false r y e = absurd (ok_err (sym e))
+  count_push : listed_rows (xs ++ x ∷ []) ≡ listed_rows xs + 1
+  count_push = rw (sum_by-append (λ (y : FileEntry). cond (is_some y.stat) 1 0) xs (x ∷ []), listed)
 
-ok_same : {A E : Type 0} (x y : A) → ◌≡◌ {A = Result A E} (Ok x) (Ok y) → x ≡ y
-ok_same x y e = cc
+  put-counts : (o : Option ℕ) → place_of x.path xs ≡ o → is_some (option_and_then (stat_at xs) o) ≡ false → (ys : List FileEntry) → put_at o xs x ≡ Ok ys → listed_rows ys ≡ listed_rows xs + 1
+  put-counts (Some k) is none ys e =
+      let same : set xs k x ≡ ys = cc in
+      let within : k < length xs = rw (length-map xs (λ y. y.path)) at (slice_get_within (paths_of xs) k x.path (place-entry x.path (paths_of xs) k is)) in
+      rw (← same) (count_set k within none)
+  put-counts None is none ys e =
+      let same : xs ++ x ∷ [] ≡ ys = let p = (needs_ok Full (nat_lt (length xs) 64) (Ok (xs ++ x ∷ [])) ys e).1 in cc in
+      rw (← same) count_push
 
-module _ (x : FileEntry) (listed : is_some x.stat ≡ true) where
-  count_set : (xs : List FileEntry) (k : ℕ) → is_some (stat_at xs k) ≡ false → k < length xs → listed_rows (set xs k x) ≡ suc (listed_rows xs)
-  count_set [] k e h = absurd (omega arith)
-  count_set (y ∷ ys) zero e h = rw (listed, e)
-  count_set (y ∷ ys) (suc k) e h =
-      elim (is_some y.stat) as (λ b. cond b (suc (listed_rows (set ys k x))) (listed_rows (set ys k x)) ≡ suc (cond b (suc (listed_rows ys)) (listed_rows ys)))
-      [ true ↦ ap suc (count_set ys k e (omega arith)) | false ↦ count_set ys k e (omega arith) ]
+list-counts : (xs : List FileEntry) (r : Listed) (ys : List FileEntry) → list_step xs r ≡ Ok ys → listed_rows ys ≡ listed_rows xs + 1
+list-counts xs r ys e =
+    let above = and_then_ok (above_of xs r.path) (λ a. put_step xs (entry_of r a)) ys e in
+    let free = needs_ok Given _ _ _ above.1 in
+    put-counts xs (entry_of r above.0) refl (place_of r.path xs) refl (not-true _ free.0) ys above.2
 
-  count-push : (xs : List FileEntry) → listed_rows (xs ++ (x ∷ [])) ≡ suc (listed_rows xs)
-  count-push [] = rw listed
-  count-push (y ∷ ys) =
-      elim (is_some y.stat) as (λ b. cond b (suc (listed_rows (ys ++ (x ∷ [])))) (listed_rows (ys ++ (x ∷ []))) ≡ suc (cond b (suc (listed_rows ys)) (listed_rows ys)))
-      [ true ↦ ap suc (count-push ys) | false ↦ count-push ys ]
+line-counts : (b : Bool) (xs : List FileEntry) (l : List ℕ) (ys : List FileEntry) → cond b (Ok xs) (and_then (row l) (λ r. list_step xs r)) ≡ Ok ys → listed_rows ys ≡ listed_rows xs + cond (not b) 1 0
+line-counts true xs l ys e = let same : xs ≡ ys = cc in rw (← same) (omega arith)
+line-counts false xs l ys e = let r = and_then_ok (row l) (λ r. list_step xs r) ys e in list-counts xs r.0 ys r.2
 
-  put-from : (n : ℕ) (xs ys : List FileEntry) (b : Bool) → ltb (place_of x.path xs) (length xs) ≡ b → is_some (stat_at xs (place_of x.path xs)) ≡ false
-      → cond b (Ok (set xs (place_of x.path xs) x)) (needs Full n (ltb (length xs) 64) (Ok (xs ++ (x ∷ [])))) ≡ Ok ys
-      → listed_rows ys ≡ suc (listed_rows xs)
-  put-from n xs ys true lt none e =
-      ap listed_rows (sym (ok_same {E = LineFault} _ _ e)) ∙ count_set xs (place_of x.path xs) none (ltb-true _ _ lt)
-  put-from n xs ys false lt none e =
-      ap listed_rows (sym (ok_same {E = LineFault} _ _ (needs_ok Full n (ltb (length xs) 64) _ ys e).1)) ∙ count-push xs
+lines-count : (n : ℕ) (xs : List FileEntry) (ls : List (List ℕ)) (ys : List FileEntry) → read_from file_step n xs ls ≡ Ok ys → listed_rows ys ≡ listed_rows xs + length (filter gives_entry ls)
+lines-count n xs [] ys e = let same : xs ≡ ys = cc in rw (← same) (omega arith)
+lines-count n xs (l ∷ ls) ys e =
+    let step = and_then_ok (at_line n (file_step xs l)) (λ zs. read_from file_step (n + 1) zs ls) ys e in
+    let here = line-counts (passed_over l) xs l step.0 (at_line_ok n (file_step xs l) step.0 step.1) in
+    let rest = lines-count (n + 1) step.0 ls ys step.2 in
+    grind (arith, common_steps)
 
-list_count : (n : ℕ) (xs ys : List FileEntry) (r : Listed) → list_step n xs r ≡ Ok ys → listed_rows ys ≡ suc (listed_rows xs)
-list_count n xs ys r e =
-    let above = and_then_ok (above_of n xs r.path) (λ a. put_step n xs (entry_of r a)) ys e in
-    let none : is_some (stat_at xs (place_of r.path xs)) ≡ false = not-true _ (needs_ok _ n _ _ _ above.1).0 in
-    put-from (entry_of r above.0) refl n xs ys _ refl none above.2
+text-counts : (b : Bool) (bs : List ℕ) (f : LineFault) (ys : List FileEntry) → cond b (read_from file_step 1 absent_rows (lines bs)) (Err f) ≡ Ok ys → listed_rows ys ≡ length (entry_lines bs)
+text-counts true bs f ys e = omega (arith, lines-count 1 absent_rows (lines bs) ys e)
+text-counts false bs f ys e = cc
 
-line_from : (n : ℕ) (xs ys : List FileEntry) (l : List ℕ) (b : Bool) → cond b (Ok xs) (and_then (row n l) (λ r. list_step n xs r)) ≡ Ok ys → listed_rows ys ≡ cond b (listed_rows xs) (suc (listed_rows xs))
-line_from n xs ys l true e = ap listed_rows (sym (ok_same {E = LineFault} _ _ e))
-line_from n xs ys l false e =
-    let read = and_then_ok (row n l) (λ r. list_step n xs r) ys e in
-    list_count n xs ys read.0 read.2
+told-counts : (k : Kind) (bs : List ℕ) (o : Result (List FileEntry) LineFault) → files_in bs ≡ o → OnOk (text_told k o) (listed_rows (value_or absent_rows o) ≡ length (entry_lines bs))
+told-counts k bs (Ok ys) e = text-counts _ bs _ ys e
+told-counts k bs (Err f) e = tt
 
-lines-count : (n : ℕ) (xs ys : List FileEntry) (ls : List (List ℕ)) → read_from file_step n xs ls ≡ Ok ys → listed_rows ys ≡ listed_rows xs + entry_lines ls
-lines-count n xs ys [] e = omega (arith, ap listed_rows (ok_same {E = LineFault} _ _ e))
-lines-count n xs ys (l ∷ ls) e =
-    let step = and_then_ok (file_step n xs l) (λ zs. read_from file_step (n + 1) zs ls) ys e in
-    let here : listed_rows step.0 ≡ cond (passed_over l) (listed_rows xs) (suc (listed_rows xs)) = line_from n xs step.0 l (passed_over l) step.1 in
-    let rest : listed_rows ys ≡ listed_rows step.0 + entry_lines ls = lines-count (n + 1) step.0 ys ls step.2 in
-    rest ∙ ap (λ c. c + entry_lines ls) here
-    ∙ elim (passed_over l) as (λ b. cond b (listed_rows xs) (suc (listed_rows xs)) + entry_lines ls ≡ listed_rows xs + cond b (entry_lines ls) (suc (entry_lines ls))) [ true ↦ refl | false ↦ omega arith ]
-
-text_from : (bs : List ℕ) (ys : List FileEntry) (b : Bool) (e : LineFault) → cond b (read_from file_step 1 absent_rows (lines bs)) (Err e) ≡ Ok ys → listed_rows ys ≡ entry_lines (lines bs)
-text_from bs ys true e h = omega (arith, lines-count 1 absent_rows ys (lines bs) h)
-text_from bs ys false e h = absurd (ok_err (sym h))
-
-told_from : (bs : List ℕ) (k : Kind) (o : Result (List FileEntry) LineFault) → files_in bs ≡ o → IfOk (text_told k o) (λ _. listed_rows (value_or absent_rows o) ≡ entry_lines (lines bs))
-told_from bs k (Ok ys) e = text_from bs ys _ _ e
-told_from bs k (Err f) e = tt
-
-pub counted : (bs : List ℕ) (k : Kind) (r : Result (Unit {0}) TextFault) (ys : List FileEntry) → r ≡ text_told k (files_in bs) → ys ≡ value_or absent_rows (files_in bs) → IfOk r (λ _. listed_rows ys ≡ entry_lines (lines bs))
-counted bs k r ys e f =
-    rw (e, f) (told_from bs k (files_in bs) refl)
+pub counted : (k : Kind) (bs : List ℕ) (r : Result (Unit {0}) TextFault) (ys : List FileEntry) → r ≡ text_told k (files_in bs) → ys ≡ value_or absent_rows (files_in bs) → OnOk r (listed_rows ys ≡ length (entry_lines bs))
+counted k bs r ys told held = rw (told, held) (told-counts k bs (files_in bs) refl)

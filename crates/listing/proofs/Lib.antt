@@ -1,8 +1,8 @@
-pub mod Keys
-pub mod Scans
-pub mod Nths
+pub mod Spelled
+pub mod Lists
 pub mod Places
 pub mod Tables
-pub mod Puts
+pub mod Taken
+pub mod Fits
 pub mod Sounds
 pub mod Counts

@@ -1,42 +1,45 @@
--- The place of a path among paths. Assumes nothing.
-use Rattle.std.proofs.Common.{◌≡◌, ℕ, suc, ◌<◌, ◌≤◌, true, false, cond, List, [], ◌∷◌, ◌++◌, length, take, Some, None, codes, Option, refl, ap, arith}
-use Rattle.std.specs.List.{slice_get}
+-- The place of the row of a path. Assumes nothing.
+use Rattle.std.proofs.Common.{◌≡◌, ℕ, ◌+◌, ◌≤◌, Bool, true, cond, not, List, [], ◌∷◌, ◌++◌, map, length, take, Some, None, codes, position, refl, ap, ◌∙◌, arith}
+use Rattle.std.specs.List.{position_or_len, slice_get}
 use Rattle.std.specs.Str.{bytes_eq}
+use Rattle.std.proofs.lemmas.Grind.{common_steps}
+use Rattle.std.proofs.lemmas.List.{length-map}
+use Rattle.std.proofs.lemmas.List.Folds.{position_or_len_push}
+use Rattle.std.proofs.lemmas.List.Sums.{prefix_len-le-length}
+use Rattle.std.proofs.lemmas.List.Quantifiers.{position-Some}
+use Rattle.std.proofs.lemmas.Option.{slice_get-get_or}
 use Rattle.std.proofs.lemmas.Slice.Eq.{bytes_eq-Decides}
-use Rattle.std.proofs.lemmas.Bool.{cond_both, false≢true}
+use Rattle.text.specs.Kept.{path_bytes}
 use Rattle.region.specs.Sound.{fixed_paths}
-use Rattle.listing.specs.Rows.{place_in, has_path}
+use Rattle.listing.specs.declared.row.FileRow.{FileRow}
+use Rattle.listing.specs.Rows.{file_entry, place_in, place_of}
 
-pub same-same : (p : List ℕ) → bytes_eq p p ≡ true
-same-same p = (bytes_eq-Decides p p).1 refl
+position_or_len-map : {X Y : Type 0} (p : Y → Bool) (f : X → Y) (xs : List X) → position_or_len p (map f xs) ≡ position_or_len (λ x. p (f x)) xs
+position_or_len-map p f [] = refl
+position_or_len-map p f (x ∷ xs) = ap (λ n. cond (not (p (f x))) (1 + n) 0) (position_or_len-map p f xs)
 
-pub place-there : (p : List ℕ) (qs : List (List ℕ)) → place_in p qs < length qs → slice_get qs (place_in p qs) ≡ Some p
-place-there p [] h = absurd (omega arith)
-place-there p (q ∷ qs) h =
-    cond_both (bytes_eq q p) 0 (suc (place_in p qs)) (λ i. i < suc (length qs) → slice_get (q ∷ qs) i ≡ Some p)
-    (λ e _. ap Some ((bytes_eq-Decides q p).0 e))
-    (λ e k. place-there p qs (omega arith))
-    h
+position-map : {X Y : Type 0} (p : Y → Bool) (f : X → Y) (xs : List X) → position p (map f xs) ≡ position (λ x. p (f x)) xs
+position-map p f xs = rw (length-map xs f, position_or_len-map p f xs)
 
-pub place_new : (p : List ℕ) (qs : List (List ℕ)) → length qs ≤ place_in p qs → place_in p (qs ++ (p ∷ [])) ≡ length qs
-place_new p [] h = rw (same-same p)
-place_new p (q ∷ qs) h =
-    elim (bytes_eq q p) as (λ b. suc (length qs) ≤ cond b 0 (suc (place_in p qs)) → cond b 0 (suc (place_in p (qs ++ (p ∷ [])))) ≡ suc (length qs))
-    [ true ↦ λ k. absurd (omega arith) | false ↦ λ k. ap suc (place_new p qs (omega arith)) ] h
+pub place_of-rows : (p : List ℕ) (rows : List FileRow) → place_of p (map file_entry rows) ≡ position (λ r. bytes_eq (path_bytes r.path) p) rows
+place_of-rows p rows = position-map (λ q. bytes_eq q p) (λ x. x.path) (map file_entry rows) ∙ position-map (λ x. bytes_eq x.path p) file_entry rows
 
-pub place_push : (p q : List ℕ) (qs : List (List ℕ)) → place_in p qs < length qs → place_in p (qs ++ (q ∷ [])) ≡ place_in p qs
-place_push p q [] h = absurd (omega arith)
-place_push p q (r ∷ qs) h =
-    elim (bytes_eq r p) as (λ b. cond b 0 (suc (place_in p qs)) < suc (length qs) → cond b 0 (suc (place_in p (qs ++ (q ∷ [])))) ≡ cond b 0 (suc (place_in p qs)))
-    [ true ↦ λ k. refl | false ↦ λ k. ap suc (place_push p q qs (omega arith)) ] h
+module _ (p : List ℕ) (qs : List (List ℕ)) where
+  pub place-entry : (i : ℕ) → place_in p qs ≡ Some i → slice_get qs i ≡ Some p
+  place-entry i e =
+      let at = position-Some (λ q. bytes_eq q p) qs i [] e in
+      slice_get-get_or qs i [] at.0 ∙ ap Some ((bytes_eq-Decides _ p).0 at.1)
+
+  pub place-push_old : (q : List ℕ) (i : ℕ) → place_in p qs ≡ Some i → place_in p (qs ++ q ∷ []) ≡ Some i
+  place-push_old q i e = grind (arith, common_steps)
+
+  pub place-push_new : place_in p qs ≡ None → place_in p (qs ++ p ∷ []) ≡ Some (length qs)
+  place-push_new e =
+      let same : bytes_eq p p ≡ true = (bytes_eq-Decides p p).1 refl in
+      let most : position_or_len (λ q. bytes_eq q p) qs ≤ length qs = prefix_len-le-length (λ q. not (bytes_eq q p)) qs in
+      grind (arith, common_steps, position_or_len_push (λ q. bytes_eq q p) qs p)
 
 -- the root is the first of the rows
-pub root_first : (p : List ℕ) (qs : List (List ℕ)) → take 11 qs ≡ fixed_paths → bytes_eq p (codes "/") ≡ true → place_in p qs ≡ 0
-root_first p [] e h = refl
-root_first p (q ∷ qs) e h =
-    let is : q ≡ codes "/" = cc in
-    rw (is, (bytes_eq-Decides p (codes "/")).0 h)
-
-pub has-path : (o : Option (List ℕ)) (p : List ℕ) → has_path o p ≡ true → o ≡ Some p
-has-path (Some q) p h = ap Some ((bytes_eq-Decides q p).0 h)
-has-path None p h = absurd (false≢true h)
+pub root_first : (p : List ℕ) (qs : List (List ℕ)) → take 11 qs ≡ fixed_paths → p ≡ codes "/" → place_in p qs ≡ Some 0
+root_first p (q ∷ qs) e is = let first : q ≡ codes "/" = cc in rw (first, is) (grind (arith, common_steps))
+root_first p [] e is = cc

@@ -1,133 +1,129 @@
 -- What every table of file rows keeps: on the first day, and as rows are put. Assumes nothing.
-use Rattle.std.proofs.Common.{◌≡◌, ℕ, ◌<◌, ◌≤◌, true, not, ◌||◌, eqb, List, [], ◌∷◌, ◌++◌, map, length, take, set, is_some, Some, None, vec_items, vec_len, Option, Vec, sym, refl, ap, ◌∙◌, subst, ⊎_elim, arith}
+use Rattle.std.proofs.Common.{◌≡◌, ◌≢◌, ℕ, zero, suc, ◌<◌, ◌≤◌, true, false, List, [], ◌∷◌, ◌++◌, map, length, take, set, is_some, Some, None, codes, Option, if◌then◌else◌, nat_lt, sym, refl, ap, ◌∙◌, subst, ⊎_elim, arith, rules}
 use Rattle.std.specs.List.{slice_get}
-use Rattle.std.proofs.lemmas.List.{length-map, length-take, map_push, take-append-le}
-use Rattle.std.proofs.lemmas.Option.{slice_get_past}
-use Rattle.std.proofs.lemmas.Bool.{or_cases, or_left, or_right, eq-eqb, eqb-true, both_ways, cases_eq, cases_lt}
+use Rattle.std.proofs.lemmas.Bool.{both_ways, or_cases, cases_lt, lt-ltb, le-ltb}
+use Rattle.std.proofs.lemmas.List.{length-map, length-take, length-set, length_push, map_push, map-set, set-get_or, take-append-le}
+use Rattle.std.proofs.lemmas.Option.{get_or_from_slice_get, none-some, same_Some}
+use Rattle.std.proofs.lemmas.Slice.Eq.{bytes_eq-Decides}
+use Rattle.text.specs.Kept.{path_bytes}
 use Rattle.text.specs.Paths.{parent}
 use Rattle.region.specs.Tables.{FileEntry, Stat}
-use Rattle.std.specs.declared.alloc.Global.{Global}
-use Rattle.listing.specs.declared.row.FileRow.{FileRow}
 use Rattle.listing.specs.declared.files.Files.{Files}
-use Rattle.listing.specs.Rows.{file_entry, absent_rows, paths_of, place_in, place_of, stat_at, stat_in, is_dir, has_path, parent_above, under_dir, FixedRows, PathsOnce, ParentsAbove, UnderDirs}
-use Rattle.listing.specs.Files.{files_of, Fitting, is_root}
-use Rattle.listing.proofs.Nths.{nth_within, set_other, set_cases, push-old, push-cases, map_set_same, at_all}
-use Rattle.listing.proofs.Places.{place-there, place_new, place_push, root_first, has-path}
+use Rattle.listing.specs.declared.row.FileRow.{FileRow}
+use Rattle.listing.specs.Rows.{file_entry, absent_rows, paths_of, place_in, place_of, stat_at, is_dir, ParentAbove, FixedRows, PathsOnce, ParentsAbove, UnderDirs}
+use Rattle.listing.specs.Files.{files_of, is_root, Fitting}
+use Rattle.listing.proofs.Lists.{set_cases, push_cases, push_stays, at_place}
+use Rattle.listing.proofs.Places.{place-entry, place-push_old, place-push_new, root_first}
 
 pub record Kept (xs : List FileEntry) : Type 0 where
+  pub few : length xs ≤ 64
   pub fixed : FixedRows xs
   pub once : PathsOnce xs
   pub parents : ParentsAbove xs
   pub under : UnderDirs xs
 
 pub kept_of : (t : Files) → Kept (files_of t)
-kept_of t = record { fixed = t.fixed; once = t.once; parents = t.parents; under = t.under }
+kept_of t = record { few = t.few; fixed = t.fixed; once = t.once; parents = t.parents; under = t.under }
 
-pub absent_kept : Kept absent_rows
+absent_kept : Kept absent_rows
 absent_kept = record {
+  few = omega arith;
   fixed = refl;
-  once = λ r p e. eqb-true (place_of p absent_rows) r (at_all (λ i q. eqb (place_of q absent_rows) i) (paths_of absent_rows) refl r p e);
-  parents = λ r x e. at_all (λ i y. parent_above absent_rows y) absent_rows refl r x e;
-  under = λ r x e. at_all (λ i y. under_dir absent_rows i y) absent_rows refl r x e;
+  once = at_place (λ r p. place_of p absent_rows ≡ Some r) (paths_of absent_rows) (search rules);
+  parents = at_place (λ r x. ParentAbove absent_rows x) absent_rows (search rules);
+  under = λ r x e _ listed. absurd (both_ways _ (at_place (λ r x. is_some x.stat ≡ false) absent_rows (search rules) r x e) listed);
 }
 
-pub absent-few : (v : Vec FileRow Global) → map file_entry (vec_items v) ≡ absent_rows → vec_len v ≤ 64
-absent-few v e = omega (arith, length-map (vec_items v) file_entry, ap length e, v.ok.0)
+pub first_kept : (rows : List FileRow) → map file_entry rows ≡ absent_rows → Kept (map file_entry rows)
+first_kept rows is = subst Kept (sym is) absent_kept
 
-pub dir-some : (o : Option Stat) → is_dir o ≡ true → is_some o ≡ true
-dir-some None h = h
-dir-some (Some s) h = refl
+-- a path that is the root is that of row 0
+root_place : (xs : List FileEntry) (p : List ℕ) → FixedRows xs → is_root p ≡ true → place_of p xs ≡ Some 0
+root_place xs p fixed h = root_first p (paths_of xs) fixed ((bytes_eq-Decides p (codes "/")).0 h)
 
-stat_within : (xs : List FileEntry) (a : ℕ) → is_some (stat_at xs a) ≡ true → a < length xs
-stat_within xs a h = ⊎_elim (λ lt. lt) (λ le. absurd (both_ways _ (ap (λ o. is_some (stat_in o)) (slice_get_past xs a le)) h)) (cases_lt a (length xs))
+dir_listed : (o : Option Stat) → is_dir o ≡ true → is_some o ≡ true
+dir_listed (Some s) d = refl
+dir_listed None d = d
 
-pub dir_within : (xs : List FileEntry) (a : ℕ) → is_dir (stat_at xs a) ≡ true → a < length xs
-dir_within xs a h = stat_within xs a (dir-some (stat_at xs a) h)
+module _ (x : FileEntry) where
+  -- a directory stays one as a row is put where none is listed, or at the end
+  dir_set : (xs : List FileEntry) (k a : ℕ) → is_some (stat_at xs k) ≡ false → is_dir (stat_at xs a) ≡ true → is_dir (stat_at (set xs k x) a) ≡ true
+  dir_set [] k a none d = d
+  dir_set (y ∷ ys) zero zero none d = absurd (both_ways _ none (dir_listed y.stat d))
+  dir_set (y ∷ ys) zero (suc a) none d = d
+  dir_set (y ∷ ys) (suc k) zero none d = d
+  dir_set (y ∷ ys) (suc k) (suc a) none d = dir_set ys k a none d
 
--- a table has at least the rows that every host has
-pub eleven : (xs : List FileEntry) → FixedRows xs → 11 ≤ length (paths_of xs)
-eleven xs e = omega (arith, length-take 11 (paths_of xs), ap length e)
-
--- a table in which each directory of another is one too
-module _ (xs ys : List FileEntry) (stays : (a : ℕ) → is_dir (stat_at xs a) ≡ true → is_dir (stat_at ys a) ≡ true) where
-  under_stays : (r : ℕ) (x : FileEntry) → under_dir xs r x ≡ true → under_dir ys r x ≡ true
-  under_stays r x h =
-      ⊎_elim
-      (λ e. or_left (not (is_some x.stat)) _ e)
-      (λ e. or_right (not (is_some x.stat)) _ (⊎_elim (λ z. or_left (eqb r 0) _ z) (λ d. or_right (eqb r 0) _ (stays x.above d)) (or_cases (eqb r 0) _ e)))
-      (or_cases (not (is_some x.stat)) _ h)
-
-  under-put : (r : ℕ) (x : FileEntry) → (is_root x.path || is_dir (stat_at xs x.above)) ≡ true → (is_root x.path ≡ true → r ≡ 0) → under_dir ys r x ≡ true
-  under-put r x h root =
-      or_right (not (is_some x.stat)) _
-      (⊎_elim (λ z. or_left (eqb r 0) _ (eq-eqb r 0 (root z))) (λ d. or_right (eqb r 0) _ (stays x.above d)) (or_cases (is_root x.path) _ h))
+  dir_push : (xs : List FileEntry) (a : ℕ) → is_dir (stat_at xs a) ≡ true → is_dir (stat_at (xs ++ x ∷ []) a) ≡ true
+  dir_push [] a d = absurd (both_ways _ refl d)
+  dir_push (y ∷ ys) zero d = d
+  dir_push (y ∷ ys) (suc a) d = dir_push ys a d
 
 module _ (xs : List FileEntry) (x : FileEntry) (kept : Kept xs) (fits : Fitting xs x) where
-  module _ (k : ℕ) (is : k ≡ place_of x.path xs) (within : k < length xs) where
+  -- the row stands in the table after a write, or is the one that was put
+  under-put : (ys : List FileEntry) (r : ℕ) → ((a : ℕ) → is_dir (stat_at xs a) ≡ true → is_dir (stat_at ys a) ≡ true) → (is_root x.path ≡ true → r ≡ 0) → (r ≢ 0) → is_dir (stat_at ys x.above) ≡ true
+  under-put ys r stays root other = ⊎_elim (λ z. absurd (other (root z))) (λ d. stays x.above d) (or_cases (is_root x.path) _ fits.under)
+
+  module _ (k : ℕ) (is : place_of x.path xs ≡ Some k) where
+    unlisted : is_some (stat_at xs k) ≡ false
+    unlisted = rw is at fits.unlisted
+
     same-paths : paths_of (set xs k x) ≡ paths_of xs
     same-paths =
-        let h : place_of x.path xs < length (paths_of xs) = omega (arith, length-map xs (λ y. y.path)) in
-        map_set_same (λ y. y.path) xs k x (ap (slice_get (paths_of xs)) is ∙ place-there x.path (paths_of xs) h)
-
-    dirs-stay : (a : ℕ) → is_dir (stat_at xs a) ≡ true → is_dir (stat_at (set xs k x) a) ≡ true
-    dirs-stay a d =
-        ⊎_elim
-        (λ e. absurd (both_ways _ fits.unlisted (dir-some _ (ap (λ i. is_dir (stat_at xs i)) (sym (e ∙ is)) ∙ d))))
-        (λ other. ap (λ o. is_dir (stat_in o)) (set_other xs k a x other) ∙ d)
-        (cases_eq a k)
+        map-set (λ y. y.path) xs k x
+        ∙ ap (set (paths_of xs) k) (sym (get_or_from_slice_get (paths_of xs) k x.path [] (place-entry x.path (paths_of xs) k is)))
+        ∙ set-get_or (paths_of xs) k []
 
     pub set-kept : Kept (set xs k x)
     set-kept = record {
+      few = rw length-set kept.few;
       fixed = ap (take 11) same-paths ∙ kept.fixed;
-      once = subst (λ qs. (r : ℕ) (p : List ℕ) → slice_get qs r ≡ Some p → place_in p qs ≡ r) (sym same-paths) kept.once;
+      once = subst (λ qs. (r : ℕ) (p : List ℕ) → slice_get qs r ≡ Some p → place_in p qs ≡ Some r) (sym same-paths) kept.once;
       parents = λ r y e.
-          ap (λ qs. has_path (slice_get qs y.above) (parent y.path)) same-paths
-          ∙ ⊎_elim (λ h. ap (parent_above xs) (sym h.1) ∙ fits.there) (λ h. kept.parents r y h) (set_cases xs k r x y within e);
-      under = λ r y e.
+          ap (λ qs. slice_get qs y.above) same-paths
+          ∙ ⊎_elim (λ h. rw (← h.1) fits.there) (λ h. kept.parents r y h) (set_cases xs k r x y e);
+      under = λ r y e other listed.
           ⊎_elim
-          (λ h. ap (under_dir (set xs k x) r) (sym h.1) ∙ under-put xs (set xs k x) dirs-stay r x fits.under (λ z. h.0 ∙ is ∙ root_first x.path (paths_of xs) kept.fixed z))
-          (λ h. under_stays xs (set xs k x) dirs-stay r y (kept.under r y h))
-          (set_cases xs k r x y within e);
+          (λ h. rw (← h.1) (under-put (set xs k x) r (λ a d. dir_set x xs k a unlisted d) (λ z. h.0 ∙ same_Some k 0 (sym is ∙ root_place xs x.path kept.fixed z)) other))
+          (λ h. dir_set x xs k y.above unlisted (kept.under r y h other listed))
+          (set_cases xs k r x y e);
     }
 
-  module _ (past : length xs ≤ place_of x.path xs) where
-    more-paths : paths_of (xs ++ (x ∷ [])) ≡ paths_of xs ++ (x.path ∷ [])
+  module _ (new : place_of x.path xs ≡ None) (room : length xs < 64) where
+    more-paths : paths_of (xs ++ x ∷ []) ≡ paths_of xs ++ x.path ∷ []
     more-paths = map_push (λ y. y.path) xs x
 
-    more-dirs-stay : (a : ℕ) → is_dir (stat_at xs a) ≡ true → is_dir (stat_at (xs ++ (x ∷ [])) a) ≡ true
-    more-dirs-stay a d = ap (λ o. is_dir (stat_in o)) (push-old xs x a (dir_within xs a d)) ∙ d
+    parents-stay : (y : FileEntry) → ParentAbove xs y → ParentAbove (xs ++ x ∷ []) y
+    parents-stay y h = ap (λ qs. slice_get qs y.above) more-paths ∙ push_stays (paths_of xs) x.path y.above (parent y.path) h
 
-    parents-stay : (y : FileEntry) → parent_above xs y ≡ true → parent_above (xs ++ (x ∷ [])) y ≡ true
-    parents-stay y h =
-        ap (λ qs. has_path (slice_get qs y.above) (parent y.path)) more-paths
-        ∙ ap (λ o. has_path o (parent y.path)) (push-old (paths_of xs) x.path y.above (nth_within (paths_of xs) y.above (parent y.path) (has-path _ _ h)))
-        ∙ h
-
-    place-past : length (paths_of xs) ≤ place_in x.path (paths_of xs)
-    place-past = omega (arith, length-map xs (λ y. y.path))
-
-    paths-once : (r : ℕ) (p : List ℕ) → slice_get (paths_of xs ++ (x.path ∷ [])) r ≡ Some p → place_in p (paths_of xs ++ (x.path ∷ [])) ≡ r
-    paths-once r p e =
+    once-push : (r : ℕ) (p : List ℕ) → slice_get (paths_of xs ++ x.path ∷ []) r ≡ Some p → place_in p (paths_of xs ++ x.path ∷ []) ≡ Some r
+    once-push r p e =
         ⊎_elim
-        (λ h. ap (λ q. place_in q (paths_of xs ++ (x.path ∷ []))) (sym h.1) ∙ place_new x.path (paths_of xs) place-past ∙ sym h.0)
-        (λ h.
-        let is : place_in p (paths_of xs) ≡ r = kept.once r p h.0 in
-        let lt : place_in p (paths_of xs) < length (paths_of xs) = omega (arith, is, h.1) in
-        place_push p x.path (paths_of xs) lt ∙ is)
-        (push-cases (paths_of xs) x.path r p e)
+        (λ h. rw (h.0, ← h.1) (place-push_new x.path (paths_of xs) new))
+        (λ h. place-push_old p (paths_of xs) x.path r (kept.once r p h))
+        (push_cases (paths_of xs) x.path r p e)
 
-    pub push_kept : Kept (xs ++ (x ∷ []))
-    push_kept = record {
-      fixed = ap (take 11) more-paths ∙ take-append-le 11 (paths_of xs) (x.path ∷ []) (eleven xs kept.fixed) ∙ kept.fixed;
-      once = subst (λ qs. (r : ℕ) (p : List ℕ) → slice_get qs r ≡ Some p → place_in p qs ≡ r) (sym more-paths) paths-once;
-      parents = λ r y e.
+    pub push-kept : Kept (xs ++ x ∷ [])
+    push-kept = record {
+      few = omega (arith, length_push xs x);
+      fixed = ap (take 11) more-paths ∙ take-append-le 11 (paths_of xs) (x.path ∷ []) (omega (arith, length-take 11 (paths_of xs), ap length kept.fixed)) ∙ kept.fixed;
+      once = subst (λ qs. (r : ℕ) (p : List ℕ) → slice_get qs r ≡ Some p → place_in p qs ≡ Some r) (sym more-paths) once-push;
+      parents = λ r y e. ⊎_elim (λ h. rw (← h.1) (parents-stay x fits.there)) (λ h. parents-stay y (kept.parents r y h)) (push_cases xs x r y e);
+      under = λ r y e other listed.
           ⊎_elim
-          (λ h. ap (parent_above (xs ++ (x ∷ []))) (sym h.1) ∙ parents-stay x fits.there)
-          (λ h. parents-stay y (kept.parents r y h.0))
-          (push-cases xs x r y e);
-      under = λ r y e.
-          ⊎_elim
-          (λ h. ap (under_dir (xs ++ (x ∷ [])) r) (sym h.1) ∙ under-put xs (xs ++ (x ∷ [])) more-dirs-stay r x fits.under (λ z. omega (arith, h.0, root_first x.path (paths_of xs) kept.fixed z)))
-          (λ h. under_stays xs (xs ++ (x ∷ [])) more-dirs-stay r y (kept.under r y h.0))
-          (push-cases xs x r y e);
+          (λ h. rw (← h.1) (under-put (xs ++ x ∷ []) r (λ a d. dir_push x xs a d) (λ z. absurd (none-some 0 (sym new ∙ root_place xs x.path kept.fixed z))) other))
+          (λ h. dir_push x xs y.above (kept.under r y h other listed))
+          (push_cases xs x r y e);
     }
+
+-- the same of the rows that hold such a table
+module _ (rows : List FileRow) (row : FileRow) (kept : Kept (map file_entry rows)) (fits : Fitting (map file_entry rows) (file_entry row)) where
+  pub rows-set : (k : ℕ) → place_of (path_bytes row.path) (map file_entry rows) ≡ Some k → Kept (map file_entry (set rows k row))
+  rows-set k is = rw (map-set file_entry rows k row) (set-kept (map file_entry rows) (file_entry row) kept fits k is)
+
+  pub rows-push : place_of (path_bytes row.path) (map file_entry rows) ≡ None → Kept (map file_entry (if nat_lt (length rows) 64 then rows ++ row ∷ [] else rows))
+  rows-push new =
+      ⊎_elim
+      (λ room. rw (lt-ltb (length rows) 64 room, map_push file_entry rows row) (push-kept (map file_entry rows) (file_entry row) kept fits new (rw (length-map rows file_entry) room)))
+      (λ full. rw (le-ltb (length rows) 64 full) kept)
+      (cases_lt (length rows) 64)

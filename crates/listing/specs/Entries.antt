@@ -1,17 +1,16 @@
 -- What a line of a listing says. Assumes nothing.
-use Rattle.std.specs.Prelude.{ℕ, ◌+◌, Bool, true, false, cond, ◌&&◌, ◌||◌, List, [], ◌∷◌, Some, None, Ok, codes, Option, Result, ◌==◌}
+use Rattle.std.specs.Prelude.{ℕ, ◌+◌, Bool, true, false, cond, ◌&&◌, ◌||◌, List, [], ◌∷◌, filter_map, Some, None, Ok, codes, Option, Result, ◌==◌}
+use Rattle.std.specs.List.{list_all}
 use Rattle.std.specs.Str.{bytes_eq}
-use Rattle.text.specs.Bytes.{and_then, number, mode}
+use Rattle.std.specs.Borrow.{Bor}
+use Rattle.text.specs.Bytes.{number, mode}
 use Rattle.text.specs.Kept.{path_bytes, path_in}
 use Rattle.region.specs.Tables.{Stat}
-use Rattle.reading.specs.declared.fault.LineFault.{LineFault}
+use Rattle.reading.specs.declared.fault.Refusal.{Refusal}
 use Rattle.reading.specs.declared.fault.Refusal.TheVariants.{Fields, BadNumber, BadName, NotCovered}
 use Rattle.reading.specs.Reads.{wants, needs}
 use Rattle.listing.specs.declared.entry.Found.{Found}
-use Rattle.listing.specs.declared.entry.Given.{Given}
-use Rattle.listing.specs.declared.entry.Given.TheVariants.{Nothing, Once, Twice}
 use Rattle.listing.specs.declared.entry.Row.{Row}
-use Rattle.listing.specs.declared.entry.Texts.{Texts}
 use Rattle.listing.specs.Rows.{stat_of}
 use Rattle.listing.specs.Words.{Piece, path_word, key_word, pieces}
 
@@ -23,11 +22,14 @@ pub record Listed : Type 0 where
 abbrev pub listed_row : Row → Listed
 listed_row r = record { path = path_bytes r.path; stat = stat_of r.stat }
 
+-- the path that a word is
+abbrev pub path_of : Piece → Option (List ℕ)
+path_of (path_word p) = Some p
+path_of (key_word k t) = None
+
 -- the paths among words
 abbrev pub paths : List Piece → List (List ℕ)
-paths [] = []
-paths (path_word p ∷ ps) = p ∷ paths ps
-paths (key_word k t ∷ ps) = paths ps
+paths ps = filter_map path_of ps
 
 -- of the words from place i on, none but the first of the line is a path
 abbrev pub placed : ℕ → List Piece → Bool
@@ -35,22 +37,27 @@ placed i [] = true
 placed i (path_word p ∷ ps) = i == 0 && placed (i + 1) ps
 placed i (key_word k t ∷ ps) = placed (i + 1) ps
 
+-- the text that a word gives a key
+abbrev pub text_of : List ℕ → Piece → Option (List ℕ)
+text_of key (path_word p) = None
+text_of key (key_word k None) = None
+text_of key (key_word k (Some t)) = cond (bytes_eq k key) (Some t) None
+
 -- the texts that words give a key
 abbrev pub texts : List ℕ → List Piece → List (List ℕ)
-texts key [] = []
-texts key (path_word p ∷ ps) = texts key ps
-texts key (key_word k None ∷ ps) = texts key ps
-texts key (key_word k (Some t) ∷ ps) = cond (bytes_eq k key) (t ∷ texts key ps) (texts key ps)
+texts key ps = filter_map (text_of key) ps
 
 abbrev pub known : List ℕ → Bool
 known k = bytes_eq k (codes "type") || bytes_eq k (codes "uid") || bytes_eq k (codes "gid") || bytes_eq k (codes "mode")
 
--- each keyword is one of the four, with a text
+-- a path, or a keyword that is one of the four and has a text
+abbrev pub is_covered : Piece → Bool
+is_covered (path_word p) = true
+is_covered (key_word k None) = false
+is_covered (key_word k (Some t)) = known k
+
 abbrev pub covered : List Piece → Bool
-covered [] = true
-covered (path_word p ∷ ps) = covered ps
-covered (key_word k None ∷ ps) = false
-covered (key_word k (Some t) ∷ ps) = known k && covered ps
+covered ps = list_all is_covered ps
 
 -- the one that is given, where that is one
 abbrev pub only : List (List ℕ) → Option (List ℕ)
@@ -71,60 +78,36 @@ abbrev pub row_path : List ℕ → Option (List ℕ)
 row_path [] = Some (codes "/")
 row_path (b ∷ bs) = path_in (b ∷ bs)
 
--- the texts of a line: what stands past the dot of its path, and what the four keywords give
-pub record LineTexts : Type 0 where
-  pub path : List ℕ
-  pub kind : List ℕ
-  pub uid : List ℕ
-  pub gid : List ℕ
-  pub mode : List ℕ
-
-abbrev pub line_texts : Texts → LineTexts
-line_texts t = record { path = t.path.now; kind = t.kind.now; uid = t.uid.now; gid = t.gid.now; mode = t.mode.now }
-
--- the texts of a line that gives each of them once; w says that the path is well placed
-abbrev pub all_texts : Bool → Option (List ℕ) → Option (List ℕ) → Option (List ℕ) → Option (List ℕ) → Option (List ℕ) → Option LineTexts
-all_texts w p t u g m =
-    cond w
-    (and_then p (λ path. and_then t (λ kind. and_then u (λ uid. and_then g (λ gid. and_then m (λ mode.
-    Some (record { path = path; kind = kind; uid = uid; gid = gid; mode = mode })))))))
-    None
-
--- the row of the texts of a line, where c says that each keyword is covered
-abbrev pub listed : ℕ → Bool → Option LineTexts → Result Listed LineFault
-listed n c o =
-    wants Fields n o (λ t.
-    needs NotCovered n c
-    (wants NotCovered n (dir_type t.kind) (λ dir.
-    wants BadName n (row_path t.path) (λ path.
-    wants BadNumber n (number t.uid) (λ owner.
-    wants BadNumber n (number t.gid) (λ group.
-    wants BadNumber n (mode t.mode) (λ mode.
-    Ok (record { path = path; stat = record { dir = dir; owner = owner; group = group; mode = mode } }))))))))
-
--- the texts that the words of a line give
-abbrev pub texts_of : List Piece → Option LineTexts
-texts_of ps = all_texts (placed 0 ps) (only (paths ps)) (only (texts (codes "type") ps)) (only (texts (codes "uid") ps)) (only (texts (codes "gid") ps)) (only (texts (codes "mode") ps))
+-- the row that is made of paths and of the texts of the four keywords, each given once; w says that the path is well placed, and c that each keyword is covered
+abbrev pub row_from : Bool → List (List ℕ) → List (List ℕ) → List (List ℕ) → List (List ℕ) → List (List ℕ) → Bool → Result Listed Refusal
+row_from w paths kinds uids gids modes c =
+    needs Fields w
+    (wants Fields (only paths) (λ dotted.
+    wants Fields (only kinds) (λ kind.
+    wants Fields (only uids) (λ uid.
+    wants Fields (only gids) (λ gid.
+    wants Fields (only modes) (λ bits.
+    needs NotCovered c
+    (wants NotCovered (dir_type kind) (λ dir.
+    wants BadName (row_path dotted) (λ path.
+    wants BadNumber (number uid) (λ owner.
+    wants BadNumber (number gid) (λ group.
+    wants BadNumber (mode bits) (λ mode.
+    Ok (record { path = path; stat = record { dir = dir; owner = owner; group = group; mode = mode } })))))))))))))
 
 -- the row that the words of a line make
-abbrev pub row_of : ℕ → List Piece → Result Listed LineFault
-row_of n ps = listed n (covered ps) (texts_of ps)
+abbrev pub row_of : List Piece → Result Listed Refusal
+row_of ps = row_from (placed 0 ps) (paths ps) (texts (codes "type") ps) (texts (codes "uid") ps) (texts (codes "gid") ps) (texts (codes "mode") ps) (covered ps)
 
 -- the row that a line lists, or why it is refused
-abbrev pub row : ℕ → List ℕ → Result Listed LineFault
-row n bs = row_of n (pieces bs)
+abbrev pub row : List ℕ → Result Listed Refusal
+row bs = row_of (pieces bs)
 
--- the text that is given once, where ts follow what is given
-abbrev pub only_after : Given → List (List ℕ) → Option (List ℕ)
-only_after Nothing ts = only ts
-only_after (Once t) [] = Some t.now
-only_after (Once t) (u ∷ ts) = None
-only_after Twice ts = None
+-- texts behind what was given before
+abbrev pub with_given : Option (Bor (List ℕ)) → List (List ℕ) → List (List ℕ)
+with_given None ts = ts
+with_given (Some t) ts = t.now ∷ ts
 
--- the texts of the words found and of those from place i on
-abbrev pub texts_after : Found → ℕ → List Piece → Option LineTexts
-texts_after f i ps = all_texts (f.placed && placed i ps) (only_after f.path (paths ps)) (only_after f.kind (texts (codes "type") ps)) (only_after f.uid (texts (codes "uid") ps)) (only_after f.gid (texts (codes "gid") ps)) (only_after f.mode (texts (codes "mode") ps))
-
--- the row of the words found and of those from place i on
-abbrev pub row_after : ℕ → Found → ℕ → List Piece → Result Listed LineFault
-row_after n f i ps = listed n (f.covered && covered ps) (texts_after f i ps)
+-- the row of the words found, where c says that each of them is covered, and of those from place i on
+abbrev pub row_after : Found → Bool → ℕ → List Piece → Result Listed Refusal
+row_after f c i ps = row_from (placed i ps) (with_given f.path (paths ps)) (with_given f.kind (texts (codes "type") ps)) (with_given f.uid (texts (codes "uid") ps)) (with_given f.gid (texts (codes "gid") ps)) (with_given f.mode (texts (codes "mode") ps)) (c && covered ps)

@@ -1,8 +1,6 @@
 -- File rows as the entries of a host's table, and the rows that every host has. Assumes nothing.
-use Rattle.std.specs.Prelude.{◌≡◌, ℕ, suc, Bool, true, false, cond, not, ◌||◌, List, [], ◌∷◌, map, take, is_some, Some, None, codes, Option, ◌==◌}
-use Rattle.std.specs.List.{slice_get}
+use Rattle.std.specs.Prelude.{◌≡◌, ◌≢◌, ℕ, Bool, true, false, List, [], ◌∷◌, map, take, is_some, Some, None, codes, Option, option_map, option_and_then, position, slice_get}
 use Rattle.std.specs.Str.{bytes_eq}
-use Rattle.std.specs.Option.{option_map}
 use Rattle.text.specs.Paths.{parent}
 use Rattle.text.specs.Kept.{path_bytes}
 use Rattle.region.specs.Tables.{FileEntry, Stat}
@@ -31,39 +29,26 @@ absent_rows = map absent fixed_rows
 abbrev pub paths_of : List FileEntry → List (List ℕ)
 paths_of xs = map (λ x. x.path) xs
 
--- the place of a path among paths, or their count where it is none of them
-abbrev pub place_in : List ℕ → List (List ℕ) → ℕ
-place_in p [] = 0
-place_in p (q ∷ qs) = cond (bytes_eq q p) 0 (suc (place_in p qs))
+-- the place of a path among paths, if it is one of them
+abbrev pub place_in : List ℕ → List (List ℕ) → Option ℕ
+place_in p qs = position (λ q. bytes_eq q p) qs
 
 -- the place of the row of a path
-abbrev pub place_of : List ℕ → List FileEntry → ℕ
+abbrev pub place_of : List ℕ → List FileEntry → Option ℕ
 place_of p xs = place_in p (paths_of xs)
-
-abbrev pub stat_in : Option FileEntry → Option Stat
-stat_in None = None
-stat_in (Some x) = x.stat
 
 -- the stat of the row at a place, if there is a row and it is listed
 abbrev pub stat_at : List FileEntry → ℕ → Option Stat
-stat_at xs i = stat_in (slice_get xs i)
+stat_at xs i = option_and_then (λ x. x.stat) (slice_get xs i)
 
 -- listed as a directory
 abbrev pub is_dir : Option Stat → Bool
 is_dir None = false
 is_dir (Some s) = s.dir
 
-abbrev pub has_path : Option (List ℕ) → List ℕ → Bool
-has_path None p = false
-has_path (Some q) p = bytes_eq q p
-
--- the row above has the path of the directory that holds x
-abbrev pub parent_above : List FileEntry → FileEntry → Bool
-parent_above xs x = has_path (slice_get (paths_of xs) x.above) (parent x.path)
-
--- a row is absent, or the root, or the row above it is listed as a directory
-abbrev pub under_dir : List FileEntry → ℕ → FileEntry → Bool
-under_dir xs r x = not (is_some x.stat) || (r == 0 || is_dir (stat_at xs x.above))
+-- the row above x has the path of the directory that holds x
+abbrev pub ParentAbove : List FileEntry → FileEntry → Type 0
+ParentAbove xs x = slice_get (paths_of xs) x.above ≡ Some (parent x.path)
 
 -- rows 0 to 10 have their paths
 abbrev pub FixedRows : List FileEntry → Type 0
@@ -71,12 +56,12 @@ FixedRows xs = take 11 (paths_of xs) ≡ fixed_paths
 
 -- each path stands once
 abbrev pub PathsOnce : List FileEntry → Type 0
-PathsOnce xs = (r : ℕ) (p : List ℕ) → Entry (paths_of xs) r p → place_of p xs ≡ r
+PathsOnce xs = (r : ℕ) (p : List ℕ) → Entry (paths_of xs) r p → place_of p xs ≡ Some r
 
 -- the row above each row has the path of the directory that holds it
 abbrev pub ParentsAbove : List FileEntry → Type 0
-ParentsAbove xs = (r : ℕ) (x : FileEntry) → Entry xs r x → parent_above xs x ≡ true
+ParentsAbove xs = (r : ℕ) (x : FileEntry) → Entry xs r x → ParentAbove xs x
 
--- each row that is listed stands under a row that is listed as a directory
+-- each row that is listed is the root, or stands under a row that is listed as a directory
 abbrev pub UnderDirs : List FileEntry → Type 0
-UnderDirs xs = (r : ℕ) (x : FileEntry) → Entry xs r x → under_dir xs r x ≡ true
+UnderDirs xs = (r : ℕ) (x : FileEntry) → Entry xs r x → (r ≢ 0) → is_some x.stat ≡ true → is_dir (stat_at xs x.above) ≡ true

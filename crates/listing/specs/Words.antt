@@ -1,12 +1,9 @@
 -- The words of a line of a listing. Assumes nothing.
-use Rattle.std.specs.Prelude.{◌≡◌, ℕ, ◌+◌, Bool, true, cond, ◌&&◌, List, [], ◌∷◌, map, Some, None, Option, ◌==◌}
-use Rattle.std.specs.Option.{option_map}
+use Rattle.std.specs.Prelude.{ℕ, Bool, true, cond, ◌&&◌, List, [], ◌∷◌, map, Some, None, Option, option_map, ◌==◌}
 use Rattle.text.specs.declared.cuts.Mark.TheVariants.{Equals}
 use Rattle.text.specs.Cuts.{marks, until, past, words}
-use Rattle.listing.specs.declared.words.Placed.{Placed}
 use Rattle.listing.specs.declared.words.Word.{Word}
 use Rattle.listing.specs.declared.words.Word.TheVariants.{Path, Keyword}
-use Rattle.listing.specs.declared.words.Words.{Words}
 
 -- a word: a path, by what stands past its dot, or a keyword, with its text if it has an equals sign
 pub data Piece : Type 0 where
@@ -38,12 +35,3 @@ pieces bs = map piece_of (words bs)
 abbrev pub seen_word : Word → Piece
 seen_word (Path w) = path_word w.now
 seen_word (Keyword k t) = key_word k.now (option_map (λ x. x.now) t)
-
--- the words that are left of a line
-abbrev pub left : Words → List Piece
-left s = pieces s.rest.now
-
--- the words of a line come in their order, each with its place
-abbrev pub WordSteps : Words → Option Placed → Words → Type 0
-WordSteps s None t = left s ≡ []
-WordSteps s (Some p) t = (left s ≡ seen_word p.word ∷ left t) × (p.place ≡ s.place) × (t.place ≡ s.place + 1)

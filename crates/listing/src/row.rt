@@ -1,7 +1,7 @@
 // A file row, and what a listing says of a file that is present.
 use text::Path;
 
-#[derive(Clone, Copy)]
+#[derive(Clone, Copy, Debug, PartialEq, Eq)]
 pub struct Stat {
     pub dir: bool,
     pub owner: u32,

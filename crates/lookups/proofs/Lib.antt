@@ -1,2 +1,2 @@
+mod Maps
 mod Parts
-mod Scans

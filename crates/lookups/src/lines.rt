@@ -1,8 +1,8 @@
 // Whom lines of hosts.equiv or of a .rhosts let in.
-ghost use Rattle.std.specs.Prelude.{◌≡◌, ◌+◌, ◌<◌, ◌≤◌, ◌&&◌, map, length};
+ghost use Rattle.std.specs.Prelude.{◌≡◌, ◌&&◌, map};
+ghost use Rattle.std.specs.List.{list_any};
 ghost use Rattle.std.specs.Option.{option_map};
 ghost use Rattle.text.specs.Kept.{name_bytes};
-ghost use Rattle.region.specs.Places.{some_passes};
 ghost use Rattle.trust.specs.Rows.{trust_word, trust_entry};
 ghost use Rattle.allows.specs.Trust.{word_fits, user_fits};
 ghost use Rattle.lookups.specs.Lines.{lets_in};
@@ -38,12 +38,7 @@ fn line_fits(line: &TrustLine, host: &Name, user: &Name, own: &Name) -> bool
 
 // Whether some line lets a user of a host into the account that is named own.
 pub fn some_line_fits(lines: &[TrustLine], host: &Name, user: &Name, own: &Name) -> bool
-    ensures { result ≡ some_passes (lets_in (name_bytes host.now) (name_bytes user.now) (name_bytes own.now)) (map trust_entry lines.now) }
+    ensures { result ≡ list_any (lets_in (name_bytes host.now) (name_bytes user.now) (name_bytes own.now)) (map trust_entry lines.now) }
 {
-    for line in lines {
-        if line_fits(line, host, user, own) {
-            return true;
-        }
-    }
-    false
+    lines.iter().any(|line| line_fits(line, host, user, own))
 }

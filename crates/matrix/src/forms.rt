@@ -2,8 +2,9 @@ ghost use Rattle.matrix.specs.Forms.{operation_form};
 ghost use Rattle.matrix.specs.Printing.{operations_named};
 
 use crate::table::Matrix;
+use bounded::ArrayVec;
+use print::put_number;
 use rules::named::Named;
-use writing::{write_number, write_text};
 
 // `Operation` and the number.
 impl Named for Matrix {
@@ -11,11 +12,13 @@ impl Named for Matrix {
 
     ghost named = { operations_named };
 
-    fn print(&self, p: u16, out: &mut [u8; 128]) -> usize {
+    fn print(&self, p: u16) -> ArrayVec<u8, 128> {
+        let mut form = ArrayVec::new(0);
         if p >= self.count {
-            return 0;
+            return form;
         }
-        let at = write_text(out, 0, b"Operation ");
-        write_number(out, at, p as u32)
+        form.add(b"Operation ");
+        put_number(&mut form, p.into());
+        form
     }
 }

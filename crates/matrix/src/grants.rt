@@ -1,4 +1,5 @@
-ghost use Rattle.std.specs.Prelude.{◌≡◌, ◌+◌, ◌*◌, ◌<◌, true, false};
+ghost use Rattle.std.specs.Prelude.{◌≡◌, ◌+◌, ◌*◌, ◌<◌, true, false, IfSome, vec_len};
+ghost use Rattle.std.specs.Option.{SomeIff};
 ghost use Rattle.matrix.specs.Grants.{matrix_rules, inside, Made, Read, Put};
 ghost use Rattle.matrix.specs.Lawful.{matrix_lawful};
 
@@ -15,27 +16,25 @@ impl Matrix {
         if count > 256 {
             return Err(Unmade::TooMany);
         }
-        match vec![in heap; false; count as usize * count as usize] {
-            Ok(cells) => Ok(Matrix { count, cells }),
-            Err(_) => Err(Unmade::NoMemory),
-        }
+        let cells = vec![in heap; false; count as usize * count as usize]?;
+        Ok(Matrix { count, cells })
     }
 
-    // Whether both are operations of the matrix.
-    fn inside(&self, p: u16, g: u16) -> bool
-        ensures { result ≡ inside self.now p g }
+    // The place of the cell that says whether p grants g, if both are operations of the matrix.
+    fn cell(&self, p: u16, g: u16) -> Option<usize>
+        ensures place { SomeIff result (inside self.now p g ≡ true) (g * self.now.count + p) }
+        ensures within { IfSome result (λ i. i < vec_len self.now.cells) }
     {
-        (p < self.count) & (g < self.count)
+        let place = g as usize * self.count as usize + p as usize;
+        (p < self.count && g < self.count).then_some(place)
     }
 
     // Whether p grants g.
     pub fn granted(&self, p: u16, g: u16) -> Result<bool, Refusal>
         ensures { Read self.now p g result }
     {
-        if !self.inside(p, g) {
-            return Err(Refusal::NotLive);
-        }
-        Ok(self.cells[g as usize * self.count as usize + p as usize])
+        let cell = self.cell(p, g).ok_or(Refusal::NotLive)?;
+        Ok(self.cells[cell])
     }
 
     // From now on p grants g.
@@ -52,13 +51,12 @@ impl Matrix {
         self.put(p, g, false)
     }
 
+    // From now on p grants g, or does not.
     fn put(&mut self, p: u16, g: u16, grants: bool) -> Result<(), Refusal>
         ensures { Put grants p g self.old self.new result }
     {
-        if !self.inside(p, g) {
-            return Err(Refusal::NotLive);
-        }
-        self.cells[g as usize * self.count as usize + p as usize] = grants;
+        let cell = self.cell(p, g).ok_or(Refusal::NotLive)?;
+        self.cells[cell] = grants;
         Ok(())
     }
 }
@@ -85,9 +83,7 @@ impl RuleSource for Matrix {
     }
 
     fn slot(&self, g: u16, k: u16) -> Option<(u16, u8)> {
-        let Ok(true) = self.granted(k, g) else {
-            return None;
-        };
-        Some((k, 201))
+        let cell = self.cell(k, g)?;
+        self.cells[cell].then_some((k, 201))
     }
 }

@@ -2,9 +2,11 @@
 #![tactic(auto)]
 
 use anyhow::anyhow;
+use bounded::ArrayVec;
 use matrix::Matrix;
 use rules::measure::Measure;
 use rules::named::Named;
+use rules::source::RuleSource;
 use rules::weights::{Crossings, Label, Steps};
 use search::answer::{Found, Refusal};
 use search::question::ask;
@@ -35,40 +37,37 @@ const GRANTS: [(u16, u16); 11] = [
     (ETC, RC),
 ];
 
-// What an operation is.
-fn name(p: u16) -> &'static str {
-    match p {
-        0 => "acquire(u.root)",
-        1 => "acquire(g.staff)",
-        2 => "acquire(u.tom)",
-        3 => "modify(/etc/rc)",
-        4 => "modify(/etc)",
-        _ => "none",
-    }
-}
+// What each operation is.
+const NAMES: [&str; 5] = [
+    "acquire(u.root)",
+    "acquire(g.staff)",
+    "acquire(u.tom)",
+    "modify(/etc/rc)",
+    "modify(/etc)",
+];
 
-// The printed form of an operation.
+// An operation, by its printed form and by what it is.
 #[derive(Drop)]
-struct Form {
-    bytes: [u8; 128],
-    length: usize,
+struct Operation {
+    form: ArrayVec<u8, 128>,
+    name: &'static str,
 }
 
-impl Form {
-    fn of(source: &impl Named, p: u16) -> Form {
-        let mut bytes = [0; 128];
-        let length = source.print(p, &mut bytes);
-        Form { bytes, length }
+impl Operation {
+    fn of(source: &impl Named, p: u16) -> Operation {
+        Operation {
+            form: source.print(p),
+            name: NAMES.get(p as usize).copied().unwrap_or("none"),
+        }
     }
 }
 
-impl fmt::Display for Form {
+impl fmt::Display for Operation {
     fn fmt<W: fmt::Write>(&self, f: &mut fmt::Formatter<W>) -> fmt::Result {
-        for b in self.bytes.iter().take(self.length) {
-            let c = *b as char;
-            write!(f, "{c}")?;
+        for b in self.form.as_slice() {
+            f.write_char((*b).into())?;
         }
-        Ok(())
+        write!(f, ", {}", self.name)
     }
 }
 
@@ -79,17 +78,17 @@ trait Told: Measure {
 
 impl Told for Steps {
     fn tell(&self, rt: &impl Print) -> anyhow::Result<()> {
-        let steps = self.count;
-        println!(rt; "By steps: {steps} steps.")?;
+        println!(rt; "By steps: {} steps.", self.count)?;
         Ok(())
     }
 }
 
 impl Told for Crossings {
     fn tell(&self, rt: &impl Print) -> anyhow::Result<()> {
-        let crossings = self.crossings;
-        let steps = self.steps;
-        println!(rt; "By crossings: {crossings} crossings, {steps} steps.")?;
+        println!(rt;
+            "By crossings: {} crossings, {} steps.",
+            self.crossings, self.steps
+        )?;
         Ok(())
     }
 }
@@ -102,31 +101,33 @@ fn show_plan<W: Told>(
     rules: &[u8; 5],
 ) -> anyhow::Result<()> {
     found.weight.tell(rt)?;
-    for i in 0..5u16 {
-        if i <= found.steps {
-            let p = plan[i as usize];
-            let rule = rules[i as usize];
-            let form = Form::of(matrix, p);
-            let name = name(p);
-            let line = i + 1;
-            println!(rt; "{line}. {form}, {name}, rule {rule}")?;
-        }
+    let steps = plan.iter().zip(rules).take(found.steps as usize + 1);
+    for (i, (p, rule)) in steps.enumerate() {
+        println!(rt; "{}. {}, rule {rule}", i + 1, Operation::of(matrix, *p))?;
     }
     Ok(())
 }
 
-// Asks for the chain from acquire(u.tom) to acquire(u.root), and prints what is answered.
-fn show_answer<W: Told>(
-    rt: &impl Print,
-    matrix: &Matrix,
-    labels: &mut [Label<W>],
-) -> anyhow::Result<()> {
+// Asks for the chain from acquire(u.tom) to acquire(u.root), weighed by the measure W, and prints what is answered.
+fn show_answer<W: Told>(rt: &(impl Print + AllocGlobal), matrix: &Matrix) -> anyhow::Result<()> {
     let held = [0, 0, 1, 0, 0];
     let mut marks = [0; 5];
+    let blank = Label {
+        weight: W::zero(),
+        next: 0,
+        rule: 0,
+    };
+    let mut labels = vec![in rt.alloc(); blank; 5]?;
     let mut plan = [0; 5];
     let mut rules = [0; 5];
     match ask(
-        matrix, &held, ROOT, &mut marks, labels, &mut plan, &mut rules,
+        matrix,
+        &held,
+        ROOT,
+        &mut marks,
+        &mut labels,
+        &mut plan,
+        &mut rules,
     ) {
         Ok(found) => show_plan(rt, matrix, found, &plan, &rules),
         Err(Refusal::NoChain) => {
@@ -138,12 +139,10 @@ fn show_answer<W: Told>(
 }
 
 fn show_matrix(rt: &impl Print, matrix: &Matrix) -> anyhow::Result<()> {
-    for p in 0..5 {
-        let form = Form::of(matrix, p);
-        let who = name(p);
-        print!(rt; "{form}, {who}, grants")?;
-        for g in 0..5 {
-            if let Ok(true) = matrix.granted(p, g) {
+    for p in 0..matrix.count() {
+        print!(rt; "{}, grants", Operation::of(matrix, p))?;
+        for g in 0..matrix.count() {
+            if matrix.granted(p, g) == Ok(true) {
                 print!(rt; " {g}")?;
             }
         }
@@ -153,28 +152,13 @@ fn show_matrix(rt: &impl Print, matrix: &Matrix) -> anyhow::Result<()> {
 }
 
 // By steps, and then by crossings.
-fn show_answers(rt: &impl Print, matrix: &Matrix) -> anyhow::Result<()> {
-    let mut by_steps = [Label {
-        weight: Steps { count: 0 },
-        next: 0,
-        rule: 0,
-    }; 5];
-    show_answer(rt, matrix, &mut by_steps)?;
-    let mut by_crossings = [Label {
-        weight: Crossings {
-            crossings: 0,
-            steps: 0,
-        },
-        next: 0,
-        rule: 0,
-    }; 5];
-    show_answer(rt, matrix, &mut by_crossings)
+fn show_answers(rt: &(impl Print + AllocGlobal), matrix: &Matrix) -> anyhow::Result<()> {
+    show_answer::<Steps>(rt, matrix)?;
+    show_answer::<Crossings>(rt, matrix)
 }
 
 fn run(rt: &HostRuntime) -> anyhow::Result<()> {
-    let Ok(mut matrix) = Matrix::new(rt.alloc(), 5) else {
-        return Err(anyhow!("no memory for the matrix"));
-    };
+    let mut matrix = Matrix::new(rt.alloc(), 5).map_err(|_| anyhow!("no memory for the matrix"))?;
     for (p, g) in GRANTS {
         let _ = matrix.grant(p, g);
     }

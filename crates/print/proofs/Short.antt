@@ -1,6 +1,6 @@
 -- The printed lines fit their memory. Assumes nothing.
-use Rattle.std.proofs.Common.{◌≡◌, ℕ, ◌-◌, ◌^◌, ◌<◌, ◌≤◌, List, [], ◌++◌, length, take, decimal, sym, ap, ◌∙◌, arith}
-use Rattle.std.proofs.lemmas.List.{length-append, take-append-le, take_all}
+use Rattle.std.proofs.Common.{◌≡◌, ℕ, ◌^◌, ◌<◌, ◌≤◌, List, [], ◌++◌, length, decimal, ap, ◌∙◌, arith}
+use Rattle.std.proofs.lemmas.List.{length-append}
 use Rattle.std.proofs.lemmas.Fmt.{length-decimal-le}
 use Rattle.bounded.specs.ArrayVecs.{Added}
 use Rattle.bounded.proofs.Clips.{added_all}
@@ -18,9 +18,3 @@ plan_line-short k form h s = simp length-append (omega (arith, decimal_short k h
 
 pub refusal_line-short : (r l t h : ℕ) → r < 2 ^ 32 → l < 2 ^ 32 → t < 2 ^ 32 → h < 2 ^ 32 → length (refusal_line r l t h) ≤ 80
 refusal_line-short r l t h a b c d = simp length-append (omega (arith, decimal_short r a, decimal_short l b, decimal_short t c, decimal_short h d))
-
--- the part of the memory that a form was written into
-pub front : (r : ℕ) (m f rest : List ℕ) → m ≡ f ++ rest → r ≡ length f → f ≡ take (r - 0) m
-front r m f rest e h =
-    let z : r - 0 ≡ length f = omega arith in
-    sym (ap (λ k. take k m) z ∙ ap (take (length f)) e ∙ take-append-le (length f) f rest (omega arith) ∙ take_all (length f) f (omega arith))

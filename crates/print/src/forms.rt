@@ -10,22 +10,12 @@ use rules::source::RuleSource;
 fn prints<S: Named>(source: &S, p: u16, line: &[u8]) -> bool
     ensures { result ≡ (S.RuleSource.meaning source.now).live p && bytes_eq (S.form source.now p) line.now }
 {
-    if !source.live(p) {
-        return false;
-    }
-    let mut memory = [0u8; 128];
-    let length = source.print(p, &mut memory);
-    &memory[0..length] == line
+    source.live(p) && source.print(p).as_slice() == line
 }
 
 // The live privilege that prints the line, if one does.
 pub fn privilege_of<S: Named>(source: &S, line: &[u8]) -> Option<u16>
     ensures { PrintedBy (S.RuleSource.meaning source.now) (S.form source.now) line.now result }
 {
-    for p in 0..source.count() {
-        if prints(source, p, line) {
-            return Some(p);
-        }
-    }
-    None
+    (0..source.count()).find(|p| prints(source, *p, line))
 }

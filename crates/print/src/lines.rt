@@ -4,6 +4,7 @@ ghost use Rattle.bounded.specs.ArrayVecs.{items_of};
 ghost use Rattle.print.specs.Lines.{plan_line, no_chain_line, refusal_line};
 
 use crate::numbers::put_number;
+use crate::refused::Refused;
 use bounded::ArrayVec;
 use rules::named::Named;
 
@@ -11,12 +12,10 @@ use rules::named::Named;
 pub fn plan_line<S: Named>(source: &S, k: u32, p: u16) -> ArrayVec<u8, 160>
     ensures { items_of result ≡ plan_line k (S.form source.now p) }
 {
-    let mut memory = [0u8; 128];
-    let length = source.print(p, &mut memory);
     let mut out = ArrayVec::new(0);
     put_number(&mut out, k);
     out.add(b". ");
-    out.add(&memory[0..length]);
+    out.add(source.print(p).as_slice());
     out.add(b"\n");
     out
 }
@@ -30,19 +29,19 @@ pub fn no_chain_line() -> ArrayVec<u8, 16>
     out
 }
 
-// The line of a refusal, with the line, the text and the host where it came about; each 0 where there is none.
-pub fn refusal_line(refusal: u8, line: u32, text: u8, host: u8) -> ArrayVec<u8, 80>
-    ensures { items_of result ≡ refusal_line refusal line text host }
+// The line of a refusal.
+pub fn refusal_line(refused: Refused) -> ArrayVec<u8, 80>
+    ensures { items_of result ≡ refusal_line refused.number refused.line refused.text refused.host }
 {
     let mut out = ArrayVec::new(0);
     out.add(b"Refused ");
-    put_number(&mut out, refusal as u32);
+    put_number(&mut out, refused.number as u32);
     out.add(b", line ");
-    put_number(&mut out, line);
+    put_number(&mut out, refused.line);
     out.add(b", text ");
-    put_number(&mut out, text as u32);
+    put_number(&mut out, refused.text as u32);
     out.add(b", host ");
-    put_number(&mut out, host as u32);
+    put_number(&mut out, refused.host as u32);
     out.add(b".\n");
     out
 }

@@ -1,20 +1,22 @@
 -- What a call that may be refused comes to, and a text that is read line by line. Assumes nothing.
-use Rattle.std.specs.Prelude.{ℕ, ◌+◌, Bool, true, false, cond, List, [], ◌∷◌, length, Some, None, Ok, Err, Option, Result, ◌==◌, nat_le}
+use Rattle.std.specs.Prelude.{ℕ, ◌+◌, Bool, true, false, cond, not, List, [], ◌∷◌, length, Some, None, Ok, Err, filter, Option, Result, ◌==◌, nat_le}
+use Rattle.reading.specs.declared.fault.Kind.{Kind}
 use Rattle.reading.specs.declared.fault.LineFault.{LineFault}
+use Rattle.reading.specs.declared.fault.TextFault.{TextFault}
 use Rattle.reading.specs.declared.fault.Refusal.{Refusal}
 use Rattle.reading.specs.declared.fault.Refusal.TheVariants.{TooLong}
 use Rattle.text.specs.Cuts.{lines}
-use Rattle.reading.specs.Faults.{fault}
+use Rattle.reading.specs.Faults.{fault, in_text}
 
 -- a line wants something, or is refused
-abbrev pub wants : {A B : Type 0} → Refusal → ℕ → Option A → (A → Result B LineFault) → Result B LineFault
-wants w n None f = Err (fault w n)
-wants w n (Some x) f = f x
+abbrev pub wants : {A B : Type 0} → Refusal → Option A → (A → Result B Refusal) → Result B Refusal
+wants w None f = Err w
+wants w (Some x) f = f x
 
 -- a line needs something to hold, or is refused
-abbrev pub needs : {B : Type 0} → Refusal → ℕ → Bool → Result B LineFault → Result B LineFault
-needs w n true r = r
-needs w n false r = Err (fault w n)
+abbrev pub needs : {B : Type 0} → Refusal → Bool → Result B Refusal → Result B Refusal
+needs w true r = r
+needs w false r = Err w
 
 abbrev pub and_then : {A B E : Type 0} → Result A E → (A → Result B E) → Result B E
 and_then (Err e) f = Err e
@@ -23,11 +25,6 @@ and_then (Ok x) f = f x
 abbrev pub ok_mapped : {A B E : Type 0} → (A → B) → Result A E → Result B E
 ok_mapped f (Ok x) = Ok (f x)
 ok_mapped f (Err e) = Err e
-
--- what a call answers whose outcome that is
-abbrev pub told : {A E : Type 0} → Result A E → Result (Unit {0}) E
-told (Ok x) = Ok tt
-told (Err e) = Err e
 
 abbrev pub value_or : {A E : Type 0} → A → Result A E → A
 value_or d (Ok x) = x
@@ -43,11 +40,29 @@ abbrev pub passed_over : List ℕ → Bool
 passed_over [] = true
 passed_over (b ∷ bs) = b == 35
 
+-- whether a line is neither empty nor a comment
+abbrev pub gives_entry : List ℕ → Bool
+gives_entry l = not (passed_over l)
+
+-- the lines that give an entry, in the kinds of texts that pass over empty lines and comments
+abbrev pub entry_lines : List ℕ → List (List ℕ)
+entry_lines bs = filter gives_entry (lines bs)
+
+-- what comes of line n: a refusal is told with the line's number
+abbrev pub at_line : {A : Type 0} → ℕ → Result A Refusal → Result A LineFault
+at_line n (Ok x) = Ok x
+at_line n (Err w) = Err (fault w n)
+
 -- what lines from number n on make of a
-abbrev pub read_from : {A : Type 0} → (ℕ → A → List ℕ → Result A LineFault) → ℕ → A → List (List ℕ) → Result A LineFault
+abbrev pub read_from : {A : Type 0} → (A → List ℕ → Result A Refusal) → ℕ → A → List (List ℕ) → Result A LineFault
 read_from step n a [] = Ok a
-read_from step n a (l ∷ ls) = and_then (step n a l) (λ b. read_from step (n + 1) b ls)
+read_from step n a (l ∷ ls) = and_then (at_line n (step a l)) (λ b. read_from step (n + 1) b ls)
 
 -- what a text makes of a table that holds first on the first day: a text has at most 8,192 bytes
-abbrev pub read_text : {A : Type 0} → (ℕ → A → List ℕ → Result A LineFault) → A → List ℕ → Result A LineFault
+abbrev pub read_text : {A : Type 0} → (A → List ℕ → Result A Refusal) → A → List ℕ → Result A LineFault
 read_text step first bs = cond (nat_le (length bs) 8192) (read_from step 1 first (lines bs)) (Err (fault TooLong 0))
+
+-- the answer of a read: a bad line is told with the kind of text
+abbrev pub text_told : {A : Type 0} → Kind → Result A LineFault → Result (Unit {0}) TextFault
+text_told k (Ok x) = Ok tt
+text_told k (Err e) = Err (in_text k e)

@@ -4,5 +4,5 @@
 mod fault;
 mod table;
 
-pub use fault::{Kind, LineFault, Refusal, SiteFault, TextFault, at};
+pub use fault::{Kind, LineFault, NoKind, Refusal, SiteFault, TextFault, at};
 pub use table::{Table, is_passed_over, read_text};

@@ -1,4 +1,4 @@
 pub mod Tables
 pub mod Sound
 pub mod Privileges
-pub mod Places
+pub mod Numbering

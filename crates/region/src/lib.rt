@@ -4,5 +4,5 @@
 mod numbering;
 mod privilege;
 
-pub use numbering::{ROOT_ANYWHERE, decode, encode};
+pub use numbering::{NotAtOneHost, ROOT_ANYWHERE};
 pub use privilege::{Privilege, Right};

@@ -1,11 +1,15 @@
 // Privileges by number: host h has the 177 numbers from 177h on, and 1,416 is root at any host.
-ghost use Rattle.std.specs.Prelude.{◌≡◌, ℕ, ◌+◌, ◌*◌, ◌<◌, ◌≤◌, Some, None, MatchOption};
-ghost use Rattle.region.specs.Privileges.{decoded, right_at, offset, encoded, Valid};
+ghost use Rattle.std.specs.Prelude.{◌≡◌, ◌<◌};
+ghost use Rattle.region.specs.Privileges.{right_at, offset};
 
 use crate::privilege::{Privilege, Right};
 
 // The number of root at any host.
 pub const ROOT_ANYWHERE: u16 = 1416;
+
+// A number that no privilege at one host has: that of root at any host, or one past it.
+#[derive(Clone, Copy, Debug, PartialEq, Eq)]
+pub struct NotAtOneHost;
 
 fn right_at(o: u8) -> Right
     requires { o < 177 }
@@ -21,18 +25,22 @@ fn right_at(o: u8) -> Right
     }
 }
 
-// The privilege of a number, but for root at any host and what lies past it.
-pub fn decode(p: u16) -> Option<Privilege>
-    ensures value { result ≡ decoded p }
-    ensures back { MatchOption result (1416 ≤ p) (λ x. encoded x ≡ p) }
-{
-    if p >= ROOT_ANYWHERE {
-        return None;
+impl TryFrom<u16> for Privilege {
+    type Error = NotAtOneHost;
+
+    ghost use Rattle.region.specs.Numbering.{Decodes};
+
+    ghost try_from_gives = { Decodes };
+
+    fn try_from(p: u16) -> Result<Privilege, NotAtOneHost> {
+        if p >= ROOT_ANYWHERE {
+            return Err(NotAtOneHost);
+        }
+        Ok(Privilege {
+            host: (p / 177) as u8,
+            right: right_at((p % 177) as u8),
+        })
     }
-    Some(Privilege {
-        host: (p / 177) as u8,
-        right: right_at((p % 177) as u8),
-    })
 }
 
 fn offset_of(right: Right) -> u16
@@ -40,18 +48,20 @@ fn offset_of(right: Right) -> u16
 {
     match right {
         Right::AnyUser => 0,
-        Right::Name(i) => 1 + i as u16,
-        Right::Number(i) => 17 + i as u16,
-        Right::Group(j) => 33 + j as u16,
-        Right::Write(r) => 49 + r as u16,
-        Right::Replace(r) => 113 + r as u16,
+        Right::Name(i) => 1 + u16::from(i),
+        Right::Number(i) => 17 + u16::from(i),
+        Right::Group(j) => 33 + u16::from(j),
+        Right::Write(r) => 49 + u16::from(r),
+        Right::Replace(r) => 113 + u16::from(r),
     }
 }
 
-// The number of a privilege.
-pub fn encode(x: Privilege) -> u16
-    ensures value { result ≡ encoded x }
-    ensures back { Valid x → decoded result ≡ Some x }
-{
-    x.host as u16 * 177 + offset_of(x.right)
+impl From<Privilege> for u16 {
+    ghost use Rattle.region.specs.Numbering.{Encodes};
+
+    ghost from_gives = { Encodes };
+
+    fn from(x: Privilege) -> u16 {
+        u16::from(x.host) * 177 + offset_of(x.right)
+    }
 }

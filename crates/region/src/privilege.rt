@@ -1,6 +1,6 @@
 // A privilege at one host. A number in a right is a place in the host's table of accounts, groups or file rows.
 
-#[derive(Clone, Copy)]
+#[derive(Clone, Copy, Debug, PartialEq, Eq)]
 pub enum Right {
     AnyUser,
     Name(u8),
@@ -10,7 +10,7 @@ pub enum Right {
     Replace(u8),
 }
 
-#[derive(Clone, Copy)]
+#[derive(Clone, Copy, Debug, PartialEq, Eq)]
 pub struct Privilege {
     pub host: u8,
     pub right: Right,

@@ -1,6 +1,5 @@
 -- What the printed forms of a source's privileges keep to.
-use Rattle.std.specs.Prelude.{◌≡◌, ℕ, ◌≤◌, true, false, List, [], length}
-use Rattle.std.specs.List.{AllByRecursion}
+use Rattle.std.specs.Prelude.{◌≡◌, ℕ, ◌≤◌, true, false, All, List, [], length}
 use Rattle.rules.specs.Rules.{Rules}
 
 -- A byte from the blank to the tilde, so that no form has a line's end in it.
@@ -12,5 +11,5 @@ pub record WellNamed (R : Rules) (form : ℕ → List ℕ) : Type 0 where
   pub live_has_a_form : (p : ℕ) → R.live p ≡ true → 1 ≤ length (form p)
   pub dead_has_none : (p : ℕ) → R.live p ≡ false → form p ≡ []
   pub at_most_128_bytes : (p : ℕ) → length (form p) ≤ 128
-  pub printable : (p : ℕ) → AllByRecursion Printable (form p)
+  pub printable : (p : ℕ) → All Printable (form p)
   pub never_alike : (p q : ℕ) → R.live p ≡ true → R.live q ≡ true → form p ≡ form q → p ≡ q

@@ -1,6 +1,6 @@
 ghost use Rattle.std.specs.Prelude.{◌≡◌, Bool};
 ghost use Rattle.rules.specs.Measures.{Measures};
-ghost use Rattle.rules.specs.Weights.{stop, crossed_steps, no_steps, steps_added, steps_at_most, no_crossings, crossings_added, crossings_at_most};
+ghost use Rattle.rules.specs.Weights.{crossed_steps, no_steps, steps_added, steps_at_most, no_crossings, crossings_added, crossings_at_most};
 ghost use Rattle.rules.specs.Weighing.{steps_measures, crossings_measures};
 
 use crate::weights::{Crossings, Steps};
@@ -28,21 +28,14 @@ pub trait Measure: Copy {
     ghost measures: { Measures zero added at_most };
 }
 
-// One more, stopping at 65,535.
-fn stopped(n: u16) -> u16
-    ensures { result ≡ stop n }
-{
-    if n < 65535 { n + 1 } else { 65535 }
-}
-
 // The steps once a crossing is added: one more, or 65,535 where the crossings have stopped.
 fn crossed_steps(crossings: u16, steps: u16) -> u16
     ensures { result ≡ crossed_steps crossings steps }
 {
-    if crossings < 65535 {
-        stopped(steps)
+    if crossings < u16::MAX {
+        steps.saturating_add(1)
     } else {
-        65535
+        u16::MAX
     }
 }
 
@@ -61,12 +54,12 @@ impl Measure for Steps {
 
     fn add(&self, _crossing: bool) -> Steps {
         Steps {
-            count: stopped(self.count),
+            count: self.count.saturating_add(1),
         }
     }
 
     fn at_most(&self, other: &Steps) -> bool {
-        self.count <= other.count
+        self <= other
     }
 }
 
@@ -89,19 +82,18 @@ impl Measure for Crossings {
     fn add(&self, crossing: bool) -> Crossings {
         if crossing {
             Crossings {
-                crossings: stopped(self.crossings),
+                crossings: self.crossings.saturating_add(1),
                 steps: crossed_steps(self.crossings, self.steps),
             }
         } else {
             Crossings {
                 crossings: self.crossings,
-                steps: stopped(self.steps),
+                steps: self.steps.saturating_add(1),
             }
         }
     }
 
     fn at_most(&self, other: &Crossings) -> bool {
-        self.crossings < other.crossings
-            || (self.crossings == other.crossings && self.steps <= other.steps)
+        self <= other
     }
 }

@@ -1,18 +1,18 @@
-ghost use Rattle.std.specs.Prelude.{◌≡◌, ℕ, ◌≤◌, List, ◌++◌, length, drop};
+ghost use Rattle.std.specs.Prelude.{◌≡◌, ℕ, List};
+ghost use Rattle.bounded.specs.ArrayVecs.{items_of};
 ghost use Rattle.rules.specs.Names.{WellNamed};
 
 use crate::source::RuleSource;
+use bounded::ArrayVec;
 
 // A source that also prints its privileges.
 pub trait Named: RuleSource {
     // The bytes that a privilege prints.
     ghost form: { Self → ℕ → List ℕ };
 
-    // Writes the form of p at the start of the memory, leaves what lies past it, and answers its length: 0 for a dead privilege.
-    fn print(&self, p: u16, out: &mut [u8; 128]) -> usize
-        ensures fits { result ≤ 128 }
-        ensures length { result ≡ length (form self.now p) }
-        ensures bytes { out.new ≡ form self.now p ++ drop (length (form self.now p)) out.old };
+    // The form of p, which is empty where p is dead. By the law below it has at most 128 bytes, so none is cut off.
+    fn print(&self, p: u16) -> ArrayVec<u8, 128>
+        ensures { items_of result ≡ form self.now p };
 
     ghost named: { (s : Self) → WellNamed (Self.RuleSource.meaning s) (form s) };
 }

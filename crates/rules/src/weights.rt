@@ -1,14 +1,14 @@
 ghost use Rattle.std.specs.Prelude.{◌≤◌};
 
 // The number of steps, stopping at 65,535.
-#[derive(Clone, Copy)]
+#[derive(Clone, Copy, Debug, PartialEq, Eq, PartialOrd, Ord)]
 pub struct Steps {
     pub count: u16,
     ghost fits: { count ≤ 65535 },
 }
 
 // The number of crossings, and then that of steps; each stops at 65,535.
-#[derive(Clone, Copy)]
+#[derive(Clone, Copy, Debug, PartialEq, Eq, PartialOrd, Ord)]
 pub struct Crossings {
     pub crossings: u16,
     pub steps: u16,

@@ -1,15 +1,16 @@
 -- Each step of the search keeps what it should.
 use Rattle.std.proofs.Common.{◌≡◌, ℕ, zero, suc, ◌<◌, ◌≤◌, Bool, true, false, cond, not, ◌&&◌, eqb, ◌⊎◌, List, [], ◌∷◌, length, set, replicate, Some, None, Option, sym, refl, ap, ◌∙◌, subst, inl, inr, arith, length-set, get_or-set_other, get_or-set_same}
 use Rattle.std.proofs.lemmas.List.{length-replicate}
+use Rattle.std.proofs.lemmas.Option.{none-some}
 use Rattle.std.proofs.lemmas.Bool.{cases_eq, cases_lt, both_ways, eqb-true, eqb-false, or_cases, or_parts, and_parts, and_cases, not-true, not-false}
 use Rattle.rules.specs.Rules.{Rules, Lawful}
 use Rattle.rules.specs.Measures.{Measures}
 use Rattle.rules.specs.Chains.{crosses, GrantsFirst, LeadsBy, weight_from, ChainBy, AllLive, Grants, weight_of}
 use Rattle.rules.specs.declared.weights.Label.{Label}
-use Rattle.search.specs.Labels.{mark, label, State, blank, better, improved, at_slot, relaxed}
-use Rattle.search.specs.Trails.{settled, Traced, Trail, Kept, All, Before}
+use Rattle.search.specs.Labels.{mark, label, State, blank, begun, better, improved, at_slot, relaxed}
+use Rattle.search.specs.Trails.{settled, Traced, Trail, Spread, Kept, All, Before}
 use Rattle.search.specs.Questions.{Apart}
-use Rattle.search.proofs.Counting.{within, settled_same, settled_more}
+use Rattle.search.proofs.Counting.{within, settled-set}
 
 abbrev giver : Option (ℕ × ℕ) → ℕ
 giver None = 0
@@ -19,6 +20,9 @@ zero-at : (n x : ℕ) → mark (replicate n 0) x ≡ 0
 zero-at zero x = refl
 zero-at (suc n) zero = refl
 zero-at (suc n) (suc x) = zero-at n x
+
+pub at_most-self : {W : Type 0} {z : W} {add : W → Bool → W} {at_most : W → W → Bool} → Measures z add at_most → (x : W) → at_most x x ≡ true
+at_most-self laws x = elim (laws.total x x) [ inl h ↦ h | inr h ↦ h ]
 
 module _ {W : Type 0} {z : W} {add : W → Bool → W} {at_most : W → W → Bool} (laws : Measures z add at_most) (R : Rules) (lawful : Lawful R) (t : ℕ) where
   -- what is settled in s is so in s', with the same label
@@ -61,9 +65,6 @@ module _ {W : Type 0} {z : W} {add : W → Bool → W} {at_most : W → W → Bo
   leads-live p [] h e = (ap R.live e ∙ h, tt)
   leads-live p (q ∷ qs) h e = (lawful.slot_leads_to_live q e.0.1.0 p e.0.0 e.0.1.1, leads-live q qs h e.1)
 
-  self : (x : W) → at_most x x ≡ true
-  self x = elim (laws.total x x) [ inl h ↦ h | inr h ↦ h ]
-
   module _ (held : ℕ → Type 0) (old : List (Label W)) where
     module _ (s : State W) (kept : Kept z add at_most R held t old All s) where
       target-zero : mark s.0 t ≡ 1 → (label z s.1 t).weight ≡ z
@@ -80,7 +81,7 @@ module _ {W : Type 0} {z : W} {add : W → Bool → W} {at_most : W → W → Bo
       pub cut : (p : ℕ) (qs : List ℕ) → (mark s.0 p ≡ 2 → ⊥) → LeadsBy (Grants R) p qs t → (u : ℕ) × (mark s.0 u ≡ 1) × (at_most (label z s.1 u).weight (weight_from z add R p qs) ≡ true)
       cut p [] nt e =
           let one : mark s.0 t ≡ 1 = omega (arith, kept.begun, kept.kinds t, λ (h : mark s.0 t ≡ 2). nt (ap (mark s.0) e ∙ h)) in
-          (t, one, rw (target-zero one) (self z))
+          (t, one, rw (target-zero one) (at_most-self laws z))
       cut p (q ∷ qs) nt e = elim (cases_eq (mark s.0 q) 2) [
         | inl m ↦ elim (kept.spread q e.0.1.0 p e.0.0 tt m e.0.1.1) [
           | inl two ↦ absurd (nt two)
@@ -119,7 +120,7 @@ module _ {W : Type 0} {z : W} {add : W → Bool → W} {at_most : W → W → Bo
         ]
 
         one_more : settled after.0 ≡ suc (settled s.0)
-        one_more = settled_more s.0 q q-within unsettled
+        one_more = settled-set s.0 q 2 q-within unsettled ∙ omega arith
 
         pub settle : (held q → ⊥) → Kept z add at_most R held t old (Before q 0) after
         settle free = record {
@@ -162,30 +163,21 @@ module _ {W : Type 0} {z : W} {add : W → Bool → W} {at_most : W → W → Bo
           ];
         }
 
+    -- the same with other slots seen
+    respread : {Seen Seen' : ℕ → ℕ → Type 0} {s : State W} → Kept z add at_most R held t old Seen s → Spread z add at_most R Seen' s → Kept z add at_most R held t old Seen' s
+    respread kept spread = record { many = kept.many; room = kept.room; past = kept.past; kinds = kept.kinds; begun = kept.begun; trails = kept.trails; spread = spread; least = kept.least; unheld = kept.unheld }
+
     -- one slot of a settled privilege
     module _ (q k : ℕ) (base : W) (s : State W) (kept : Kept z add at_most R held t old (Before q k) s) (mq : mark s.0 q ≡ 2) (isBase : base ≡ (label z s.1 q).weight) where
       -- an empty slot
       pub pass-empty : R.slot q k ≡ None → Kept z add at_most R held t old (Before q (suc k)) s
-      pass-empty none = record {
-        many = kept.many;
-        room = kept.room;
-        past = kept.past;
-        kinds = kept.kinds;
-        begun = kept.begun;
-        trails = kept.trails;
-        spread = λ x j y e seen m slot. elim (cases_eq j k) [
-          | inl eq ↦ elim (cases_eq x q) [
-            | inl at ↦ absurd (none_some (sym none ∙ ap (λ i. R.slot i k) (sym at) ∙ ap (R.slot x) (sym eq) ∙ slot))
-            | inr off ↦ kept.spread x j y e (λ at. absurd (off at)) m slot
-          ]
-          | inr ne ↦ kept.spread x j y e (λ at. omega (arith, seen at)) m slot
-        ];
-        least = kept.least;
-        unheld = kept.unheld;
-      }
-        where
-          none_some : {e : ℕ × ℕ} → None ≡ Some e → ⊥
-          none_some {e} h = let zo : ◌≡◌ {A = ℕ} 0 1 = cc in omega arith
+      pass-empty none = respread kept (λ x j y e seen m slot. elim (cases_eq j k) [
+        | inl eq ↦ elim (cases_eq x q) [
+          | inl at ↦ absurd (none-some _ (sym none ∙ ap (λ i. R.slot i k) (sym at) ∙ ap (R.slot x) (sym eq) ∙ slot))
+          | inr off ↦ kept.spread x j y e (λ at. absurd (off at)) m slot
+        ]
+        | inr ne ↦ kept.spread x j y e (λ at. omega (arith, seen at)) m slot
+      ])
 
       module _ (p r : ℕ) (slot : R.slot q k ≡ Some (p, r)) where
         abbrev cand : Label W
@@ -206,25 +198,15 @@ module _ {W : Type 0} {z : W} {add : W → Bool → W} {at_most : W → W → Bo
 
         -- no better label
         pub pass-worse : ((mark s.0 p ≡ 2) ⊎ ((mark s.0 p ≡ 1) × (at_most (label z s.1 p).weight cand.weight ≡ true))) → Kept z add at_most R held t old (Before q (suc k)) s
-        pass-worse worse = record {
-          many = kept.many;
-          room = kept.room;
-          past = kept.past;
-          kinds = kept.kinds;
-          begun = kept.begun;
-          trails = kept.trails;
-          spread = λ x j y e seen m h. elim (seen-before x j seen) [
-            | inl early ↦ kept.spread x j y e early m h
-            | inr now ↦
-                let y≡p : y ≡ p = at-k x j y e now.0 now.1 h in
-                elim worse [
-                  | inl two ↦ inl (ap (mark s.0) y≡p ∙ two)
-                  | inr one ↦ inr (ap (mark s.0) y≡p ∙ one.0, rw (y≡p, now.0, ← isBase) one.1)
-                ]
-          ];
-          least = kept.least;
-          unheld = kept.unheld;
-        }
+        pass-worse worse = respread kept (λ x j y e seen m h. elim (seen-before x j seen) [
+          | inl early ↦ kept.spread x j y e early m h
+          | inr now ↦
+              let y≡p : y ≡ p = at-k x j y e now.0 now.1 h in
+              elim worse [
+                | inl two ↦ inl (ap (mark s.0) y≡p ∙ two)
+                | inr one ↦ inr (ap (mark s.0) y≡p ∙ one.0, rw (y≡p, now.0, ← isBase) one.1)
+              ]
+        ])
 
         -- a better label
         module _ (good : (mark s.0 p ≡ 0) ⊎ ((mark s.0 p ≡ 1) × (at_most (label z s.1 p).weight cand.weight ≡ false))) where
@@ -262,7 +244,7 @@ module _ {W : Type 0} {z : W} {add : W → Bool → W} {at_most : W → W → Bo
               (ne, sym (off-p x ne) ∙ m)
 
           same_count : settled next.0 ≡ settled s.0
-          same_count = settled_same s.0 p 1 unset (λ e. omega arith)
+          same_count = settled-set s.0 p 1 (omega (arith, p-live, kept.many)) unset ∙ omega arith
 
           -- the new label weighs no more than the old one, if there was one
           down : mark s.0 p ≡ 1 → at_most cand.weight (label z s.1 p).weight ≡ true
@@ -339,7 +321,7 @@ module _ {W : Type 0} {z : W} {add : W → Bool → W} {at_most : W → W → Bo
                         | inl two ↦ absurd (unset two)
                         | inr one ↦ laws.transitive _ _ _ (down one.0) one.1
                       ]
-                      | inr now ↦ rw (now.0, ← isBase) (self _)
+                      | inr now ↦ rw (now.0, ← isBase) (at_most-self laws _)
                     ]),
                   )
                   | inr ne ↦ elim (seen-before x j seen) [
@@ -397,25 +379,12 @@ module _ {W : Type 0} {z : W} {add : W → Bool → W} {at_most : W → W → Bo
       relaxed-keeps zero s h = h
       relaxed-keeps (suc k) s h = one-slot k (relaxed z add at_most R q base k s) (R.slot q k) refl (relaxed-keeps k s h)
 
-    none_some : {e : ℕ × ℕ} → None ≡ Some e → ⊥
-    none_some {e} h = let zo : ◌≡◌ {A = ℕ} 0 1 = cc in omega arith
-
     -- no slot is left
     all_seen : (q : ℕ) (s : State W) → Kept z add at_most R held t old (Before q R.width) s → Kept z add at_most R held t old All s
-    all_seen q s kept = record {
-      many = kept.many;
-      room = kept.room;
-      past = kept.past;
-      kinds = kept.kinds;
-      begun = kept.begun;
-      trails = kept.trails;
-      spread = λ x j y e _ m slot. kept.spread x j y e (λ _. elim (cases_lt j R.width) [
-        | inl lt ↦ lt
-        | inr le ↦ absurd (none_some (sym (lawful.nothing_from_width_on x j le) ∙ slot))
-      ]) m slot;
-      least = kept.least;
-      unheld = kept.unheld;
-    }
+    all_seen q s kept = respread kept (λ x j y e _ m slot. kept.spread x j y e (λ _. elim (cases_lt j R.width) [
+      | inl lt ↦ lt
+      | inr le ↦ absurd (none-some _ (sym (lawful.nothing_from_width_on x j le) ∙ slot))
+    ]) m slot)
 
     -- a whole turn
     pub turn-keeps : (s : State W) → Kept z add at_most R held t old All s → (q : ℕ) → mark s.0 q ≡ 1 →
@@ -442,9 +411,9 @@ module _ {W : Type 0} {z : W} {add : W → Bool → W} {at_most : W → W → Bo
         laws.transitive _ _ _ (lowest u m) le
 
     -- the start
-    pub start-keeps : R.count ≤ length old → t < R.count → Kept z add at_most R held t old All (set (replicate R.count 0) t 1, set old t (record { weight = z; next = t; rule = 0 }))
-    start-keeps room lt = record {
-      many = length-set _ t 1 ∙ length-replicate {A = ℕ} R.count 0;
+    pub start-keeps : (ms₀ : List ℕ) → length ms₀ ≡ R.count → R.count ≤ length old → t < R.count → Kept z add at_most R held t old All (begun z t (ms₀, old))
+    start-keeps ms₀ many room lt = record {
+      many = length-set _ t 1 ∙ length-replicate {A = ℕ} (length ms₀) 0 ∙ many;
       room = omega (arith, length-set old t first);
       past = λ k d le. get_or-set_other old t k first d (λ e. omega arith);
       kinds = λ x. elim (cases_eq x t) [ inl e ↦ omega (arith, ap (mark ms) e, at-t) | inr ne ↦ omega (arith, off-t x ne) ];
@@ -462,16 +431,16 @@ module _ {W : Type 0} {z : W} {add : W → Bool → W} {at_most : W → W → Bo
         first = record { weight = z; next = t; rule = 0 }
 
         ms : List ℕ
-        ms = set (replicate R.count 0) t 1
+        ms = set (replicate (length ms₀) 0) t 1
 
         ls : List (Label W)
         ls = set old t first
 
         at-t : mark ms t ≡ 1
-        at-t = get_or-set_same (replicate R.count 0) t 1 0 (omega (arith, length-replicate {A = ℕ} R.count 0))
+        at-t = get_or-set_same (replicate (length ms₀) 0) t 1 0 (omega (arith, length-replicate {A = ℕ} (length ms₀) 0))
 
         off-t : (x : ℕ) → (x ≡ t → ⊥) → mark ms x ≡ 0
-        off-t x ne = get_or-set_other (replicate R.count 0) t x 1 0 ne ∙ zero-at R.count x
+        off-t x ne = get_or-set_other (replicate (length ms₀) 0) t x 1 0 ne ∙ zero-at (length ms₀) x
 
         not-two : (x : ℕ) → mark ms x ≡ 2 → ⊥
         not-two x m = elim (cases_eq x t) [ inl e ↦ omega (arith, ap (mark ms) e, at-t) | inr ne ↦ omega (arith, off-t x ne) ]

@@ -1,3 +1,4 @@
+pub mod Boards
 pub mod Labels
 pub mod Lists
 pub mod Outcomes

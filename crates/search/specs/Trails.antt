@@ -1,19 +1,19 @@
 -- What the search keeps true.
-use Rattle.std.specs.Prelude.{◌≡◌, ℕ, ◌+◌, ◌<◌, ◌≤◌, Bool, true, cond, ◌⊎◌, List, [], ◌∷◌, length, Some, ◌==◌, slice_index_or}
+use Rattle.std.specs.Prelude.{◌≡◌, ℕ, ◌<◌, ◌≤◌, Bool, true, ◌⊎◌, List, [], ◌∷◌, length, Some, count_by, ◌==◌, slice_index_or}
 use Rattle.rules.specs.Rules.{Rules}
 use Rattle.rules.specs.Chains.{Grants, GrantsFirst, crosses, LeadsBy, weight_from}
 use Rattle.rules.specs.declared.weights.Label.{Label}
+use Rattle.search.specs.declared.board.TheConstants.{UNREACHED, LABELLED, SETTLED}
 use Rattle.search.specs.Labels.{mark, label, State}
 use Rattle.search.specs.Questions.{Apart}
 
 -- how many are settled
 abbrev pub settled : List ℕ → ℕ
-settled [] = 0
-settled (m ∷ ms) = cond (m == 2) 1 0 + settled ms
+settled ms = count_by (λ m. m == SETTLED) ms
 
 -- p's label comes from q's, which is settled
 pub record Hop {W : Type 0} (z : W) (add : W → Bool → W) (R : Rules) (s : State W) (p q : ℕ) : Type 0 where
-  pub done : mark s.0 q ≡ 2
+  pub done : mark s.0 q ≡ SETTLED
   pub next : (label z s.1 p).next ≡ q
   pub first : GrantsFirst R p q (label z s.1 p).rule
   pub weight : (label z s.1 p).weight ≡ add (label z s.1 q).weight (crosses R p q)
@@ -27,19 +27,24 @@ pub record Trail {W : Type 0} (z : W) (add : W → Bool → W) (R : Rules) (t : 
   pub rest : List ℕ
   pub traced : Traced z add R t s p rest
   pub short : length rest ≤ settled s.0
-  pub shorter : mark s.0 p ≡ 2 → length rest < settled s.0
+  pub shorter : mark s.0 p ≡ SETTLED → length rest < settled s.0
+
+-- what grants a settled privilege in a slot that Seen tells is settled itself, or has a label that weighs no more than by that step
+abbrev pub Spread : {W : Type 0} → W → (W → Bool → W) → (W → W → Bool) → Rules → (ℕ → ℕ → Type 0) → State W → Type 0
+Spread z add at_most R Seen s = (q k p r : ℕ) → Seen q k → mark s.0 q ≡ SETTLED → R.slot q k ≡ Some (p, r) →
+    (mark s.0 p ≡ SETTLED) ⊎ ((mark s.0 p ≡ LABELLED) × (at_most (label z s.1 p).weight (add (label z s.1 q).weight (crosses R p q)) ≡ true))
 
 -- after a privilege q settled, and its slots that Seen tells
 pub record Kept {W : Type 0} (z : W) (add : W → Bool → W) (at_most : W → W → Bool) (R : Rules) (held : ℕ → Type 0) (t : ℕ) (old : List (Label W)) (Seen : ℕ → ℕ → Type 0) (s : State W) : Type 0 where
   pub many : length s.0 ≡ R.count
   pub room : R.count ≤ length s.1
   pub past : (k : ℕ) (d : Label W) → R.count ≤ k → slice_index_or s.1 k d ≡ slice_index_or old k d
-  pub kinds : (p : ℕ) → mark s.0 p ≤ 2
-  pub begun : 0 < mark s.0 t
-  pub trails : (p : ℕ) → 0 < mark s.0 p → Trail z add R t s p
-  pub spread : (q k p r : ℕ) → Seen q k → mark s.0 q ≡ 2 → R.slot q k ≡ Some (p, r) → (mark s.0 p ≡ 2) ⊎ ((mark s.0 p ≡ 1) × (at_most (label z s.1 p).weight (add (label z s.1 q).weight (crosses R p q)) ≡ true))
-  pub least : (q : ℕ) → mark s.0 q ≡ 2 → (qs : List ℕ) → LeadsBy (Grants R) q qs t → at_most (label z s.1 q).weight (weight_from z add R q qs) ≡ true
-  pub unheld : (q : ℕ) → mark s.0 q ≡ 2 → held q → ⊥
+  pub kinds : (p : ℕ) → mark s.0 p ≤ SETTLED
+  pub begun : UNREACHED < mark s.0 t
+  pub trails : (p : ℕ) → UNREACHED < mark s.0 p → Trail z add R t s p
+  pub spread : Spread z add at_most R Seen s
+  pub least : (q : ℕ) → mark s.0 q ≡ SETTLED → (qs : List ℕ) → LeadsBy (Grants R) q qs t → at_most (label z s.1 q).weight (weight_from z add R q qs) ≡ true
+  pub unheld : (q : ℕ) → mark s.0 q ≡ SETTLED → held q → ⊥
 
 -- every slot
 abbrev pub All : ℕ → ℕ → Type 0

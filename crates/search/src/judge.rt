@@ -11,6 +11,7 @@ pub fn judge<S: RuleSource>(source: &S, held: &[u8], target: u16) -> Result<(), 
 {
     let mut dead = false;
     let mut p: u16 = 0;
+    // The project's form for held bytes: a `for` over them, with the privilege counted beside it.
     for b in held {
         match *b {
             0 => {}

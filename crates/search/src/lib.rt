@@ -2,9 +2,8 @@
 #![tactic(auto)]
 
 pub mod answer;
+mod board;
 mod guard;
 mod judge;
 pub mod question;
-mod run;
-mod turn;
 mod write;

@@ -1,49 +1,44 @@
-ghost use Rattle.std.specs.Prelude.{◌≡◌, ℕ, ◌<◌, ◌≤◌, length, replicate, slice_index_or};
+ghost use Rattle.std.specs.Prelude.{◌≡◌, ℕ, ◌≤◌, length, replicate, slice_index_or};
 ghost use Rattle.rules.specs.Chains.{Grants, GrantsFirst};
-ghost use Rattle.search.specs.Outcomes.{Answered};
+ghost use Rattle.search.specs.Outcomes.{Searched};
 ghost use Rattle.search.specs.Questions.{Asked};
 
 use crate::answer::{Found, Refusal};
+use crate::board::Board;
 use crate::guard::Marks;
 use crate::judge::judge;
-use crate::run::{begin, run};
-use crate::write::{weight_at, write_plan};
+use crate::write::write_plan;
 use rules::measure::Measure;
 use rules::source::RuleSource;
 use rules::weights::Label;
 
-// The answer, over memory that suffices: there is a held byte and a mark for each privilege, and no more.
-fn reply<S: RuleSource, W: Measure>(
+// The held privilege that a least chain starts at, over memory that suffices: there is a held byte and a mark for each privilege, and no more.
+fn chain_start<S: RuleSource, W: Measure>(
     source: &S,
     held: &[u8],
     target: u16,
     marks: &mut [u8],
     labels: &mut [Label<W>],
-    plan: &mut [u16],
-    rules: &mut [u8],
-) -> Result<Found<W>, Refusal>
+) -> Result<u16, Refusal>
     requires held { length held.now ≡ (S.meaning source.now).count }
     requires marks { length marks.old ≡ (S.meaning source.now).count }
     requires labels { (S.meaning source.now).count ≤ length labels.old }
-    requires plan { (S.meaning source.now).count ≤ length plan.old }
-    requires rules { (S.meaning source.now).count ≤ length rules.old }
-    ensures cases { Answered W.zero W.added W.at_most (S.meaning source.now) held.now target plan.old plan.new rules.old rules.new result }
+    ensures cases { Searched W.zero W.added W.at_most (S.meaning source.now) held.now target labels.new result }
     ensures marks { marks.new ≡ replicate (length marks.old) 0 }
     ensures past { (k : ℕ) (d : Label W) → (S.meaning source.now).count ≤ k → slice_index_or labels.new k d ≡ slice_index_or labels.old k d }
 {
     let guard = Marks { cells: &mut *marks };
     judge(source, held, target)?;
-    begin(target, &mut *guard.cells, labels);
-    let Some(from) = run(source, held, target, &mut *guard.cells, labels) else {
-        return Err(Refusal::NoChain);
+    let mut board = Board {
+        marks: &mut *guard.cells,
+        labels,
     };
-    let steps = write_plan(labels, from, target, plan, rules);
-    let weight = weight_at(labels, from);
-    Ok(Found { steps, weight })
+    board.run(source, held, target).ok_or(Refusal::NoChain)
 }
 
 // Asks for the least chain from a privilege of the held set to the target. The first n held bytes, n being the source's count, are the held set;
 // marks, labels, plan and rules are memory of n entries or more. The plan is written held end first, with the rule of each step beside it and 0 beside its first privilege.
+// The memory is lent as a slice for each list: that is the interface, and so they stay parameters of their own.
 pub fn ask<S: RuleSource, W: Measure>(
     source: &S,
     held: &[u8],
@@ -59,13 +54,6 @@ pub fn ask<S: RuleSource, W: Measure>(
     if held.len() < n || marks.len() < n || labels.len() < n || plan.len() < n || rules.len() < n {
         return Err(Refusal::ShortMemory);
     }
-    reply(
-        source,
-        &held[0..n],
-        target,
-        &mut marks[0..n],
-        labels,
-        plan,
-        rules,
-    )
+    let from = chain_start(source, &held[0..n], target, &mut marks[0..n], labels)?;
+    Ok(write_plan(labels, from, target, plan, rules))
 }

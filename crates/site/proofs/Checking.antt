@@ -1,20 +1,11 @@
 -- The loop over the hosts that looks for a text that is missing. Assumes nothing.
-use Rattle.std.proofs.Common.{◌≡◌, ℕ, ◌+◌, ◌<◌, ◌≤◌, List, [], ◌∷◌, map, length, get_or, drop, Some, None, Ok, Err, sym, refl, ap, ◌∙◌, arith}
-use Rattle.std.proofs.lemmas.List.{drop_more, drop_all}
+use Rattle.std.proofs.Common.{◌≡◌, ℕ, ◌+◌, ◌<◌, List, ◌∷◌, map, length, get_or, drop, Some, None, Err, sym, ap, ◌∙◌}
+use Rattle.std.proofs.lemmas.List.{drop_more}
 use Rattle.reading.specs.declared.fault.Kind.{Kind}
-use Rattle.reading.specs.declared.fault.Kind.TheVariants.{Hosts}
 use Rattle.host.specs.declared.host.Host.{Host}
 use Rattle.host.specs.Tables.{host_tables}
 use Rattle.host.specs.Wanted.{first_unread}
-use Rattle.site.specs.Checks.{missing, unread_or, checked_from, checked}
-
-pub none-checked : (hs : List Host) → length hs ≡ 0 → Err (missing 0 Hosts) ≡ checked (map host_tables hs)
-none-checked [] h = refl
-none-checked (x ∷ xs) h = absurd (omega arith)
-
-pub some-checked : (hs : List Host) → (length hs ≡ 0 → ⊥) → checked_from 0 (map host_tables hs) ≡ checked (map host_tables hs)
-some-checked [] h = absurd (h refl)
-some-checked (x ∷ xs) h = refl
+use Rattle.site.specs.Checks.{missing, unread_or, checked_from}
 
 module _ (hs : List Host) (i : ℕ) (x : Host) (lt : i < length hs) (is : x ≡ get_or hs i x) where
   here : checked_from i (map host_tables (drop i hs)) ≡ unread_or i (first_unread (host_tables x)) (checked_from (i + 1) (map host_tables (drop (i + 1) hs)))
@@ -25,6 +16,3 @@ module _ (hs : List Host) (i : ℕ) (x : Host) (lt : i < length hs) (is : x ≡ 
 
   pub check-later : None ≡ first_unread (host_tables x) → checked_from i (map host_tables (drop i hs)) ≡ checked_from (i + 1) (map host_tables (drop (i + 1) hs))
   check-later e = here ∙ ap (λ o. unread_or i o (checked_from (i + 1) (map host_tables (drop (i + 1) hs)))) (sym e)
-
-pub check_end : (hs : List Host) (i : ℕ) → length hs ≤ i → checked_from i (map host_tables (drop i hs)) ≡ Ok tt
-check_end hs i le = ap (λ ys. checked_from i (map host_tables ys)) (drop_all i hs le)

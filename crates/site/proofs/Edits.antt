@@ -1,68 +1,62 @@
 -- A call about one host: what it answers, and what it leaves. Assumes nothing.
-use Rattle.std.proofs.Common.{◌≡◌, ℕ, zero, suc, ◌<◌, ◌≤◌, List, [], ◌∷◌, map, length, get_or, take, set, Some, None, Err, vec_items, Result, sym, refl, ap, ◌∙◌, arith, length-take}
+use Rattle.std.proofs.Common.{◌≡◌, ℕ, zero, suc, ◌<◌, ◌≤◌, List, [], ◌∷◌, map, length, get_or, take, set, Some, Result, sym, refl, ap, ◌∙◌, arith, length-take}
+use Rattle.std.proofs.Math.Seq.{take-set-lt, map-set_same}
+use Rattle.std.proofs.lemmas.List.{length-map, map-set, get_or-take, get_or-map}
+use Rattle.std.proofs.lemmas.Option.{slice_get_read}
 use Rattle.std.specs.List.{slice_get}
+use Rattle.std.specs.Borrow.{Bor, MutBor}
+use Rattle.std.specs.Fn.{Once}
 use Rattle.reading.specs.declared.fault.Kind.{Kind}
 use Rattle.reading.specs.declared.fault.TextFault.{TextFault}
 use Rattle.region.specs.Tables.{HostTables}
+use Rattle.tables.specs.declared.hosts.HostNames.{HostNames}
 use Rattle.tables.specs.HostsText.{hosts_of}
 use Rattle.host.specs.declared.host.Host.{Host}
 use Rattle.host.specs.Tables.{host_tables}
 use Rattle.site.specs.declared.open.OpenSite.{OpenSite}
-use Rattle.site.specs.Models.{first_hosts, open_model, no_host, answer_at, edited, host_after}
+use Rattle.site.specs.Calls.{Acts, AnswersBy, LeavesBy}
+use Rattle.site.specs.Models.{first_hosts, open_model, placed, host_answer, edited, host_after}
 
-module _ {X Y : Type 0} (view : X → Y) where
-  item-there : (n i : ℕ) (xs : List X) (x : X) → i < n → i < length xs → x ≡ get_or xs i x → slice_get (take n (map view xs)) i ≡ Some (view x)
-  item-there n i [] x h k e = absurd (omega arith)
-  item-there zero i (y ∷ xs) x h k e = absurd (omega arith)
-  item-there (suc n) zero (y ∷ xs) x h k e = ap (λ z. Some (view z)) (sym e)
-  item-there (suc n) (suc i) (y ∷ xs) x h k e = item-there n i xs x (omega arith) (omega arith) e
+-- an edit is a write, where there is an item
+edit-is : {X : Type 0} (f : X → X) (xs : List X) (i : ℕ) (x y : X) → slice_get xs i ≡ Some x → y ≡ f x → set xs i y ≡ edited f xs i
+edit-is f [] i x y there e = refl
+edit-is f (z ∷ xs) zero x y there e = let first : Some z ≡ Some x = there in ap (λ w. w ∷ xs) (cc)
+edit-is f (z ∷ xs) (suc i) x y there e = ap (λ ws. z ∷ ws) (edit-is f xs i x y there e)
 
-  item-edited : (f : Y → Y) (n i : ℕ) (xs : List X) (x y : X) → i < n → i < length xs → x ≡ get_or xs i x → view y ≡ f (view x) → take n (map view (set xs i y)) ≡ edited f (take n (map view xs)) i
-  item-edited f n i [] x y h k e v = absurd (omega arith)
-  item-edited f zero i (z ∷ xs) x y h k e v = absurd (omega arith)
-  item-edited f (suc n) zero (z ∷ xs) x y h k e v = ap (λ w. w ∷ take n (map view xs)) (v ∙ ap (λ w. f (view w)) e)
-  item-edited f (suc n) (suc i) (z ∷ xs) x y h k e v = ap (λ ws. view z ∷ ws) (item-edited f n i xs x y (omega arith) (omega arith) e v)
+-- and nothing, where there is none
+no-edit : {X : Type 0} (f : X → X) (xs : List X) (i : ℕ) → length xs ≤ i → xs ≡ edited f xs i
+no-edit f [] i past = refl
+no-edit f (x ∷ xs) zero past = absurd (omega arith)
+no-edit f (x ∷ xs) (suc i) past = ap (λ ys. x ∷ ys) (no-edit f xs i (omega arith))
 
-none-there : {X : Type 0} (xs : List X) (i : ℕ) → length xs ≤ i → slice_get xs i ≡ None
-none-there [] i h = refl
-none-there (x ∷ xs) zero h = absurd (omega arith)
-none-there (x ∷ xs) (suc i) h = none-there xs i (omega arith)
+-- ys are the hosts that a site shows
+module _ (s : OpenSite) (h : ℕ) (ys : List Host) (shown : map host_tables ys ≡ (open_model s).hosts) where
+  many : length (open_model s).hosts ≡ length ys
+  many = ap length (sym shown) ∙ length-map ys host_tables
 
-none-edited : {X : Type 0} (f : X → X) (xs : List X) (i : ℕ) → length xs ≤ i → edited f xs i ≡ xs
-none-edited f [] i h = refl
-none-edited f (x ∷ xs) zero h = absurd (omega arith)
-none-edited f (x ∷ xs) (suc i) h = ap (λ ys. x ∷ ys) (none-edited f xs i (omega arith))
+  pub after-gone : length ys ≤ h → (after : HostTables → HostTables) → open_model s ≡ host_after h after (open_model s)
+  after-gone gone after = ap (λ hs. record { hosts_read = s.names.read; hosts = hs }) (no-edit after (open_model s).hosts h (omega (arith, many)))
 
-module _ (s : OpenSite) (h : ℕ) where
-  -- no such host
-  module _ (gone : s.count ≤ h) where
-    past : length (open_model s).hosts ≤ h
-    past = simp length-take (omega arith)
+  module _ (there : h < length ys) (x y : Host) (is : x ≡ get_or s.hosts h x) where
+    within : (h < length (hosts_of s.names.table)) × (h < length s.hosts)
+    within = let l : h < length (open_model s).hosts = omega (arith, many) in (omega (arith, simp length-take at l), omega (arith, length-map s.hosts host_tables, simp length-take at l))
 
-    pub answer-gone : (k : Kind) (answer : HostTables → Result (Unit {0}) TextFault) → answer_at k answer (slice_get (open_model s).hosts h) ≡ Err (no_host k)
-    answer-gone k answer = rw (none-there (open_model s).hosts h past)
+    held : get_or (open_model s).hosts h (host_tables x) ≡ host_tables x
+    held = get_or-take _ (map host_tables s.hosts) h (host_tables x) within.0 ∙ get_or-map host_tables s.hosts h x (host_tables x) within.1 ∙ ap host_tables (sym is)
 
-    pub after-gone : (after : HostTables → HostTables) → open_model s ≡ host_after h after (open_model s)
-    after-gone after = ap (λ hs. record { hosts_read = s.hosts_read; hosts = hs }) (sym (none-edited after (open_model s).hosts h past))
+    found : slice_get (open_model s).hosts h ≡ Some (host_tables x)
+    found = slice_get_read (open_model s).hosts _ h (host_tables x) (sym many) there (sym held)
 
-  -- host x
-  module _ (there : h < s.count) (x : Host) (is : x ≡ get_or (vec_items s.hosts) h x) where
-    at_place : h < length (vec_items s.hosts)
-    at_place = let few = s.within in let eight = s.«eight» in let whole = s.hosts.ok.0 in omega arith
+    -- the hosts, with y in the place of x
+    hosts-with : first_hosts (length (hosts_of s.names.table)) (set s.hosts h y) ≡ set (open_model s).hosts h (host_tables y)
+    hosts-with = ap (take _) (map-set host_tables s.hosts h y) ∙ take-set-lt _ (map host_tables s.hosts) h (host_tables y) within.0
 
-    pub answer-there : (k : Kind) (answer : HostTables → Result (Unit {0}) TextFault) → answer_at k answer (slice_get (open_model s).hosts h) ≡ answer (host_tables x)
-    answer-there k answer = rw (item-there host_tables s.count h (vec_items s.hosts) x there at_place is)
+    pub names-kept : (host_tables y).name ≡ (host_tables x).name → map (λ t. t.name) (first_hosts (length (hosts_of s.names.table)) (set s.hosts h y)) ≡ hosts_of s.names.table
+    names-kept e = ap (map (λ t. t.name)) hosts-with ∙ map-set_same (λ t. t.name) (open_model s).hosts h (host_tables y) (host_tables x) (e ∙ ap (λ t. t.name) (sym held)) ∙ s.named
 
-    hosts-there : (after : HostTables → HostTables) (y : Host) → host_tables y ≡ after (host_tables x) → first_hosts s.count (set (vec_items s.hosts) h y) ≡ edited after (open_model s).hosts h
-    hosts-there after y e = item-edited host_tables after s.count h (vec_items s.hosts) x y there at_place is e
+    module _ {F : Type 0} (g : Once F (MutBor Host × (Bor HostNames × Unit {0})) (Result (Unit {0}) TextFault × (MutBor Host × Unit {0}))) (act : F) (r : Result (Unit {0}) TextFault) (acts : Acts g act s.names.table x r y) where
+      pub told-there : (k : Kind) (answer : HostTables → Result (Unit {0}) TextFault) → AnswersBy g act s.names.table answer → placed h r ≡ host_answer k h answer (open_model s)
+      told-there k answer a = rw found (ap (placed h) (a x r y acts))
 
-    pub after-there : (after : HostTables → HostTables) (y : Host) → host_tables y ≡ after (host_tables x) → record { hosts_read = s.hosts_read; hosts = first_hosts s.count (set (vec_items s.hosts) h y) } ≡ host_after h after (open_model s)
-    after-there after y e = ap (λ hs. record { hosts_read = s.hosts_read; hosts = hs }) (hosts-there after y e)
-
-    pub names-there : (y : Host) → (host_tables y).name ≡ (host_tables x).name → map (λ t. t.name) (first_hosts s.count (set (vec_items s.hosts) h y)) ≡ hosts_of s.names
-    names-there y e = ap (map (λ t. t.name)) (hosts-there (λ t. host_tables y) y refl) ∙ same s.count h (vec_items s.hosts) there at_place is ∙ s.named where
-      same : (n i : ℕ) (xs : List Host) → i < n → i < length xs → x ≡ get_or xs i x → map (λ t. t.name) (edited (λ t. host_tables y) (take n (map host_tables xs)) i) ≡ map (λ t. t.name) (take n (map host_tables xs))
-      same n i [] a b q = absurd (omega arith)
-      same zero i (z ∷ xs) a b q = absurd (omega arith)
-      same (suc n) zero (z ∷ xs) a b q = ap (λ w. w ∷ map (λ t. t.name) (take n (map host_tables xs))) (e ∙ ap (λ w. (host_tables w).name) q)
-      same (suc n) (suc i) (z ∷ xs) a b q = ap (λ ws. (host_tables z).name ∷ ws) (same n i xs (omega arith) (omega arith) q)
+      pub held-there : (after : HostTables → HostTables) → LeavesBy g act s.names.table after → record { hosts_read = s.names.read; hosts = first_hosts (length (hosts_of s.names.table)) (set s.hosts h y) } ≡ host_after h after (open_model s)
+      held-there after a = ap (λ hs. record { hosts_read = s.names.read; hosts = hs }) (hosts-with ∙ edit-is after (open_model s).hosts h (host_tables x) (host_tables y) found (a x r y acts))

@@ -1,4 +1,6 @@
+pub mod Calls
 pub mod Checks
-pub mod Models
+pub mod Closed
 pub mod Closing
+pub mod Models
 pub mod Sounds

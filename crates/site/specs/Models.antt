@@ -1,5 +1,5 @@
 -- A site as plain records, and what its calls make of it. Assumes nothing.
-use Rattle.std.specs.Prelude.{ℕ, zero, suc, Bool, false, cond, not, List, [], ◌∷◌, map, take, is_ok, Some, None, Ok, Err, vec_items, Option, Result}
+use Rattle.std.specs.Prelude.{ℕ, zero, suc, Bool, false, cond, not, List, [], ◌∷◌, map, length, take, is_ok, Some, None, Ok, Err, Option, Result}
 use Rattle.std.specs.List.{slice_get}
 use Rattle.reading.specs.declared.fault.Kind.{Kind}
 use Rattle.reading.specs.declared.fault.Kind.TheVariants.{Hosts}
@@ -9,12 +9,11 @@ use Rattle.reading.specs.declared.fault.Refusal.TheVariants.{Unknown}
 use Rattle.reading.specs.Faults.{fault, in_text, at_host}
 use Rattle.reading.specs.Reads.{value_or}
 use Rattle.region.specs.Tables.{HostTables}
-use Rattle.tables.specs.HostsText.{hosts_in}
+use Rattle.tables.specs.HostsText.{hosts_of, hosts_in}
 use Rattle.host.specs.declared.host.Host.{Host}
 use Rattle.host.specs.Tables.{host_tables, unread_tables}
 use Rattle.host.specs.Reads.{taken, answered}
 use Rattle.site.specs.declared.open.OpenSite.{OpenSite}
-use Rattle.site.specs.declared.closed.ClosedSite.{ClosedSite}
 
 -- whether the hosts text has been read, and the hosts that it names
 pub record SiteModel : Type 0 where
@@ -25,11 +24,9 @@ pub record SiteModel : Type 0 where
 abbrev pub first_hosts : ℕ → List Host → List HostTables
 first_hosts count hosts = take count (map host_tables hosts)
 
+-- the hosts that have the names that the hosts text gives
 abbrev pub open_model : OpenSite → SiteModel
-open_model s = record { hosts_read = s.hosts_read; hosts = first_hosts s.count (vec_items s.hosts) }
-
-abbrev pub closed_model : ClosedSite → SiteModel
-closed_model s = record { hosts_read = s.hosts_read; hosts = first_hosts s.count (vec_items s.hosts) }
+open_model s = record { hosts_read = s.names.read; hosts = first_hosts (length (hosts_of s.names.table)) s.hosts }
 
 -- the names of the hosts
 abbrev pub site_names : SiteModel → List (List ℕ)

@@ -1,29 +1,21 @@
 // An open site that wants no text more is closed.
 ghost use Rattle.std.specs.Prelude.{◌≡◌, ◌≤◌, true, map, length, is_ok, Err, MatchResult};
 ghost use Rattle.host.specs.Tables.{host_tables};
-ghost use Rattle.site.specs.Models.{open_model, closed_model};
+ghost use Rattle.site.specs.Models.{open_model};
+ghost use Rattle.site.specs.Closed.{closed_model};
 ghost use Rattle.site.specs.Checks.{missing, checked};
 ghost use Rattle.site.specs.Closing.{Closes};
 
 use crate::closed::ClosedSite;
 use crate::open::OpenSite;
 use host::Host;
-use reading::{Kind, LineFault, Refusal, SiteFault, TextFault};
+use reading::{Kind, Refusal, SiteFault, TextFault};
 
 // A text that is wanted and has not been read.
 fn missing(host: u8, kind: Kind) -> SiteFault
     ensures { result ≡ missing host kind }
 {
-    SiteFault {
-        host,
-        fault: TextFault {
-            kind,
-            fault: LineFault {
-                refusal: Refusal::Unread,
-                line: 0,
-            },
-        },
-    }
+    SiteFault::from((host, TextFault::of_text(kind, Refusal::Unread)))
 }
 
 fn check_hosts(hosts: &[Host]) -> Result<(), SiteFault>
@@ -54,12 +46,7 @@ impl OpenSite {
         requires { is_ok (checked (open_model self).hosts) ≡ true }
         ensures { Closes (open_model self) (closed_model result) }
     {
-        ClosedSite {
-            hosts: self.hosts,
-            count: self.count,
-            names: self.names,
-            hosts_read: self.hosts_read,
-        }
+        ClosedSite { site: self }
     }
 }
 

@@ -3,7 +3,6 @@
 
 mod close;
 mod closed;
-mod first;
 mod open;
 
 pub use close::try_close;

@@ -1,7 +1,5 @@
-pub mod Scans
-pub mod Forms
+pub mod Views
 pub mod Pushes
-pub mod Props
 pub mod Counts
 pub mod AccountLaws
 pub mod HostLaws

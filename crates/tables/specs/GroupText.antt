@@ -1,30 +1,27 @@
 -- What a group text says. Assumes nothing.
-use Rattle.std.specs.Prelude.{ℕ, ◌≤◌, Bool, true, false, cond, not, ◌||◌, List, [], ◌∷◌, map, length, replicate, is_some, Some, None, Ok, vec_items, Option, Result, ◌==◌, slice_index_or, slice_set}
+use Rattle.std.specs.Prelude.{ℕ, ◌≤◌, Bool, true, false, cond, not, ◌||◌, List, [], ◌∷◌, map, length, replicate, Some, None, Ok, Option, Result, ◌==◌, slice_index_or, slice_set}
+use Rattle.std.specs.List.{list_all, list_any}
 use Rattle.std.specs.Str.{bytes_eq}
 use Rattle.text.specs.declared.cuts.Mark.TheVariants.{Colon, Comma}
-use Rattle.text.specs.Bytes.{all, name, number}
+use Rattle.text.specs.Bytes.{name, number}
 use Rattle.text.specs.Cuts.{fields, some}
 use Rattle.text.specs.Kept.{name_bytes, name_in}
 use Rattle.region.specs.Tables.{AccountEntry, GroupEntry}
 use Rattle.region.specs.Sound.{OwnName, reserved}
 use Rattle.reading.specs.declared.fault.LineFault.{LineFault}
+use Rattle.reading.specs.declared.fault.Refusal.{Refusal}
 use Rattle.reading.specs.declared.fault.Refusal.TheVariants.{Fields, BadNumber, BadName, Given, Unknown, NotCovered}
 use Rattle.reading.specs.Reads.{wants, needs, and_then, read_text}
 use Rattle.tables.specs.declared.groups.Groups.{Groups}
-use Rattle.tables.specs.declared.groups.Reading.{Reading}
 use Rattle.tables.specs.declared.groups.read.Entry.{Entry}
 use Rattle.tables.specs.declared.groups.read.Head.{Head}
 use Rattle.tables.specs.Rows.{group_entry}
-use Rattle.tables.specs.Steps.{place_from, with_row}
+use Rattle.tables.specs.Steps.{with_row}
 use Rattle.tables.specs.PasswdText.{account_place}
 
 -- the groups that a table holds
 abbrev pub groups_of : Groups → List GroupEntry
-groups_of t = map group_entry (vec_items t.rows)
-
--- the groups that have been read so far
-abbrev pub groups_read : Reading → List GroupEntry
-groups_read t = map group_entry (vec_items t.rows)
+groups_of t = map group_entry t.rows
 
 -- the fields of a line that are kept, as written
 pub record GroupFields : Type 0 where
@@ -51,13 +48,13 @@ pub record GroupHead : Type 0 where
 abbrev pub group_head : Head → GroupHead
 group_head h = record { name = name_bytes h.name; number = h.number }
 
--- the name and the number that line n gives a group, where its members are names too
-abbrev pub group_head_in : ℕ → GroupFields → Result GroupHead LineFault
-group_head_in n e =
-    needs NotCovered n (not (reserved e.name))
-    (wants BadName n (name_in e.name) (λ own.
-    needs BadName n (all name (members e.members))
-    (wants BadNumber n (number e.number) (λ u.
+-- the name and the number that a line gives a group, where its members are names too
+abbrev pub group_head_in : GroupFields → Result GroupHead Refusal
+group_head_in e =
+    needs NotCovered (not (reserved e.name))
+    (wants BadName (name_in e.name) (λ own.
+    needs BadName (list_all name (members e.members))
+    (wants BadNumber (number e.number) (λ u.
     Ok (record { name = own; number = u })))))
 
 pub record GroupHeadFormed (g : GroupHead) : Type 0 where
@@ -69,27 +66,27 @@ abbrev pub group_given : List ℕ → ℕ → GroupEntry → Bool
 group_given bs u g = g.number == u || bytes_eq g.name bs
 
 -- which accounts are members, besides those listed before
-abbrev pub listed_from : ℕ → List AccountEntry → List Bool → List (List ℕ) → Result (List Bool) LineFault
-listed_from n accounts listed [] = Ok listed
-listed_from n accounts listed (m ∷ ms) = wants Unknown n (account_place m accounts) (λ i. listed_from n accounts (slice_set listed i true) ms)
+abbrev pub listed_from : List AccountEntry → List Bool → List (List ℕ) → Result (List Bool) Refusal
+listed_from accounts listed [] = Ok listed
+listed_from accounts listed (m ∷ ms) = wants Unknown (account_place m accounts) (λ i. listed_from accounts (slice_set listed i true) ms)
 
 -- which accounts are members
-abbrev pub listed_in : ℕ → List AccountEntry → List (List ℕ) → Result (List Bool) LineFault
-listed_in n accounts ms = listed_from n accounts (replicate 16 false) ms
+abbrev pub listed_in : List AccountEntry → List (List ℕ) → Result (List Bool) Refusal
+listed_in accounts ms = listed_from accounts (replicate 16 false) ms
 
--- the groups with the one that line n gives
-abbrev pub with_group : List AccountEntry → ℕ → List GroupEntry → GroupHead → List (List ℕ) → Result (List GroupEntry) LineFault
-with_group accounts n rows g ms =
-    needs Given n (not (is_some (place_from (group_given g.name g.number) 0 rows)))
-    (and_then (listed_in n accounts ms) (λ listed.
-    with_row 16 n rows (record { name = g.name; number = g.number; listed = listed })))
+-- the groups with the one that a line gives
+abbrev pub with_group : List AccountEntry → List GroupEntry → GroupHead → List (List ℕ) → Result (List GroupEntry) Refusal
+with_group accounts rows g ms =
+    needs Given (not (list_any (group_given g.name g.number) rows))
+    (and_then (listed_in accounts ms) (λ listed.
+    with_row 16 rows (record { name = g.name; number = g.number; listed = listed })))
 
--- the groups after line n
-abbrev pub group_step : List AccountEntry → ℕ → List GroupEntry → List ℕ → Result (List GroupEntry) LineFault
-group_step accounts n rows l =
-    wants Fields n (four_fields (fields Colon l)) (λ e.
-    and_then (group_head_in n e) (λ g.
-    with_group accounts n rows g (members e.members)))
+-- the groups after a line
+abbrev pub group_step : List AccountEntry → List GroupEntry → List ℕ → Result (List GroupEntry) Refusal
+group_step accounts rows l =
+    wants Fields (four_fields (fields Colon l)) (λ e.
+    and_then (group_head_in e) (λ g.
+    with_group accounts rows g (members e.members)))
 
 -- the groups that a text gives beside those accounts, or its first bad line
 abbrev pub groups_in : List AccountEntry → List ℕ → Result (List GroupEntry) LineFault

@@ -1,4 +1,6 @@
 // The tables that a region's texts are read into: hosts, and for each host its accounts and its groups.
+// Each is a type of its own: it says in its ghost field what is sound of its rows, and a group's members are looked up only past the test for its name
+// and number, so one table generic over the row would need a trait as long as what is alike here, a line each over BoundedVec.
 #![tactic(auto)]
 
 mod accounts;

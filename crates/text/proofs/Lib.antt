@@ -1,6 +1,6 @@
-pub mod Steps
 pub mod Parted
 pub mod PathLaws
 pub mod Wholes
 pub mod Joins
 pub mod Digits
+pub mod Few

@@ -1,5 +1,8 @@
 -- A text is its first part and the parts past the mark. Assumes nothing.
-use Rattle.std.proofs.Common.{◌≡◌, ℕ, ◌<◌, Bool, true, false, ◌⊎◌, List, [], ◌∷◌, length, get_or, IfSome, Some, None, filter, Option, sym, refl, ap, inl, inr, ⊎_elim, arith}
+use Rattle.std.proofs.Common.{◌≡◌, ℕ, suc, ◌+◌, ◌<◌, ◌≤◌, Bool, true, false, cond, ltb, not, ◌⊎◌, List, [], ◌∷◌, length, take, drop, Some, None, filter, position, unwrap_or, Option, sym, refl, ap, subst, ◌∙◌, inl, inr, ⊎_elim, arith}
+use Rattle.std.specs.List.{position_or_len}
+use Rattle.std.proofs.lemmas.Grind.{common_steps}
+use Rattle.std.proofs.lemmas.List.{drop_all}
 use Rattle.text.specs.declared.cuts.Mark.{Mark}
 use Rattle.text.specs.Cuts.{marks, until, past, onto, parted, later, fields, fields_past, lines, words, some}
 use Rattle.text.specs.declared.cuts.Mark.TheVariants.{Newline, Blank}
@@ -21,50 +24,96 @@ pub lines_cut : (p : ℕ → Bool) (bs : List ℕ) → 0 < length bs → parted 
 lines_cut p [] h = absurd (omega arith)
 lines_cut p (b ∷ bs) h = parted_cons [] p b bs (p b) refl (inl refl)
 
--- what is past a mark is shorter
-past_shorter_at : (p : ℕ → Bool) (bs rest : List ℕ) (t : Bool) → p (get_or bs 0 0) ≡ t → past p bs ≡ Some rest → length rest < length bs
-past_shorter_at p [] rest t e h = absurd (grind arith)
-past_shorter_at p (b ∷ bs) rest true e h = let same : bs ≡ rest = grind (arith, rw e at h) in omega (arith, ap length same)
-past_shorter_at p (b ∷ bs) rest false e h = omega (arith, past_shorter_at p bs rest (p (get_or bs 0 0)) refl (rw e at h))
+one_more : (n : ℕ) → suc n ≡ 1 + n
+one_more n = omega arith
 
-pub past_shorter : (p : ℕ → Bool) (bs rest : List ℕ) → past p bs ≡ Some rest → length rest < length bs
-past_shorter p bs rest h = past_shorter_at p bs rest (p (get_or bs 0 0)) refl h
+-- the first mark by its place
+module _ (p : ℕ → Bool) where
+  until_front_at : (b : ℕ) (bs : List ℕ) (t : Bool) → p b ≡ t → until p bs ≡ take (position_or_len p bs) bs → until p (b ∷ bs) ≡ take (position_or_len p (b ∷ bs)) (b ∷ bs)
+  until_front_at b bs true h k = rw h
+  until_front_at b bs false h k = rw h (ap (λ l. b ∷ l) k ∙ ap (λ n. take n (b ∷ bs)) (one_more (position_or_len p bs)))
 
--- what `cut` gives tells the fields
-pub fields_told : (m : Mark) (s part : List ℕ) (o : Option (List ℕ)) → part ≡ until (marks m) s → o ≡ past (marks m) s → fields m s ≡ part ∷ fields_past m o
-fields_told m s part o h k = rw (h, k) (fields_cut (marks m) s)
+  until_front : (bs : List ℕ) → until p bs ≡ take (position_or_len p bs) bs
+  until_front [] = grind (arith, common_steps)
+  until_front (b ∷ bs) = until_front_at b bs (p b) refl (until_front bs)
 
-pub shorter_told : (m : Mark) (s : List ℕ) (o : Option (List ℕ)) → o ≡ past (marks m) s → IfSome o (λ x. length x < length s)
-shorter_told m s None k = tt
-shorter_told m s (Some rest) k = past_shorter (marks m) s rest (sym k)
+  past_front : (bs : List ℕ) → past p bs ≡ cond (ltb (position_or_len p bs) (length bs)) (Some (drop (position_or_len p bs + 1) bs)) None
+  past_front [] = grind (arith, common_steps)
+  past_front (b ∷ bs) = grind (arith, common_steps, past_front bs)
 
-pub lines_told : (s part : List ℕ) (o : Option (List ℕ)) → 0 < length s → part ≡ until (marks Newline) s → o ≡ past (marks Newline) s → lines s ≡ part ∷ later [] (marks Newline) o
-lines_told s part o some h k = rw (h, k) (lines_cut (marks Newline) s some)
+  pub until_at : (bs : List ℕ) (i : ℕ) → position p bs ≡ Some i → take i bs ≡ until p bs
+  until_at bs i h = grind (arith, common_steps, until_front bs)
 
-until_whole_at : (p : ℕ → Bool) (s : List ℕ) (t : Bool) → p (get_or s 0 0) ≡ t → past p s ≡ None → until p s ≡ s
-until_whole_at p [] t e h = refl
-until_whole_at p (b ∷ s) true e h = absurd (grind (arith, rw e at h))
-until_whole_at p (b ∷ s) false e h = rw e (ap (λ l. b ∷ l) (until_whole_at p s (p (get_or s 0 0)) refl (rw e at h)))
+  pub past_at : (bs : List ℕ) (i : ℕ) → position p bs ≡ Some i → Some (drop (i + 1) bs) ≡ past p bs
+  past_at bs i h = grind (arith, common_steps, past_front bs)
 
--- with no mark, the first part is all
-pub until-whole : (p : ℕ → Bool) (s : List ℕ) → past p s ≡ None → until p s ≡ s
-until-whole p s h = until_whole_at p s (p (get_or s 0 0)) refl h
+  pub until_none : (bs : List ℕ) → position p bs ≡ None → bs ≡ until p bs
+  until_none bs h = grind (arith, common_steps, until_front bs)
 
--- a word, by the fields between blanks
-pub words_more : (s w : List ℕ) (o : Option (List ℕ)) → fields Blank s ≡ w ∷ fields_past Blank o → 0 < length w → words s ≡ w ∷ filter some (fields_past Blank o)
-words_more s [] o h k = absurd (omega arith)
-words_more s (b ∷ w) o h k = rw h
+  pub past_none : (bs : List ℕ) → position p bs ≡ None → None ≡ past p bs
+  past_none bs h = grind (arith, common_steps, past_front bs)
 
-pub words_skip : (s w : List ℕ) (o : Option (List ℕ)) → fields Blank s ≡ w ∷ fields_past Blank o → length w ≡ 0 → words s ≡ filter some (fields_past Blank o)
-words_skip s [] o h k = rw h
-words_skip s (b ∷ w) o h k = absurd (omega arith)
+  -- with nothing past it, the first part is all
+  pub until-whole : (bs : List ℕ) → past p bs ≡ None → until p bs ≡ bs
+  until-whole bs h = grind (arith, common_steps, past_front bs, until_front bs)
 
-pub whole_told : (m : Mark) (s : List ℕ) → None ≡ past (marks m) s → fields m s ≡ s ∷ []
-whole_told m s h = fields_told m s s None (sym (until-whole (marks m) s (sym h))) h
+pub fields_at : (m : Mark) (s : List ℕ) (i : ℕ) → position (marks m) s ≡ Some i → fields m s ≡ take i s ∷ fields m (drop (i + 1) s)
+fields_at m s i h = rw (until_at (marks m) s i h) (fields_cut (marks m) s ∙ ap (λ o. until (marks m) s ∷ fields_past m o) (sym (past_at (marks m) s i h)))
 
-pub until-some : (p : ℕ → Bool) (s w : List ℕ) → w ≡ until p s → 0 < length w → 0 < length s
-until-some p [] w e h = omega (arith, ap length e)
-until-some p (b ∷ s) w e h = omega arith
+pub fields_none : (m : Mark) (s : List ℕ) → position (marks m) s ≡ None → fields m s ≡ s ∷ []
+fields_none m s h = fields_cut (marks m) s ∙ ap (λ o. until (marks m) s ∷ fields_past m o) (sym (past_none (marks m) s h)) ∙ ap (λ l. l ∷ []) (sym (until_none (marks m) s h))
 
 pub fields-some : (m : Mark) (s : List ℕ) → 0 < length (fields m s)
 fields-some m s = rw (fields_cut (marks m) s) (omega arith)
+
+-- the lines by what `cut` gives
+later_lines : (o : Option (List ℕ)) → later [] (marks Newline) o ≡ lines (unwrap_or o [])
+later_lines None = refl
+later_lines (Some rest) = refl
+
+pub lines_told : (s part : List ℕ) (o : Option (List ℕ)) → 0 < length s → part ≡ until (marks Newline) s → o ≡ past (marks Newline) s → lines s ≡ part ∷ lines (unwrap_or o [])
+lines_told s part o full h k = rw (h, ← later_lines o, k) (lines_cut (marks Newline) s full)
+
+-- the words by what `cut` gives past the blanks before the first
+abbrev other : ℕ → Bool
+other b = not (marks Blank b)
+
+later_words : (o : Option (List ℕ)) → filter some (fields_past Blank o) ≡ words (unwrap_or o [])
+later_words None = refl
+later_words (Some rest) = refl
+
+words_more : (s w : List ℕ) (o : Option (List ℕ)) → fields Blank s ≡ w ∷ fields_past Blank o → 0 < length w → words s ≡ w ∷ words (unwrap_or o [])
+words_more s [] o h k = absurd (omega arith)
+words_more s (b ∷ w) o h k = rw (h, ← later_words o)
+
+-- past i blanks, the words are the same, and one begins there unless nothing is left
+record Skips (s : List ℕ) (i : ℕ) : Type 0 where
+  pub same : words s ≡ words (drop i s)
+  pub begins : i < length s → 0 < length (until (marks Blank) (drop i s))
+
+skips_at : (b : ℕ) (bs : List ℕ) (t : Bool) → marks Blank b ≡ t → Skips bs (position_or_len other bs) → Skips (b ∷ bs) (position_or_len other (b ∷ bs))
+skips_at b bs true h k =
+    let at : position_or_len other (b ∷ bs) ≡ 1 + position_or_len other bs = rw h in
+    let gone : words (b ∷ bs) ≡ words bs = rw h in
+    let left : drop (position_or_len other (b ∷ bs)) (b ∷ bs) ≡ drop (position_or_len other bs) bs = ap (λ n. drop n (b ∷ bs)) (at ∙ sym (one_more (position_or_len other bs))) in
+    record { same = gone ∙ k.same ∙ ap words (sym left); begins = λ l. rw left (k.begins (omega arith)) }
+skips_at b bs false h k =
+    let left : drop (position_or_len other (b ∷ bs)) (b ∷ bs) ≡ b ∷ bs = rw h in
+    let first : until (marks Blank) (b ∷ bs) ≡ b ∷ until (marks Blank) bs = rw h in
+    record { same = ap words (sym left); begins = λ l. rw (left, first) (omega arith) }
+
+skips : (bs : List ℕ) → Skips bs (position_or_len other bs)
+skips [] = record { same = refl; begins = λ h. absurd (omega arith) }
+skips (b ∷ bs) = skips_at b bs (marks Blank b) refl (skips bs)
+
+pub words_told : (s t w : List ℕ) (i : ℕ) (o : Option (List ℕ)) → position other s ≡ Some i → t ≡ drop i s → w ≡ until (marks Blank) t → fields Blank t ≡ w ∷ fields_past Blank o → words s ≡ w ∷ words (unwrap_or o [])
+words_told s t w i o h left k e =
+    let at : position_or_len other s ≡ i = grind (arith, common_steps) in
+    let inside : position_or_len other s < length s = grind (arith, common_steps) in
+    let past_blanks : Skips s i = subst (Skips s) at (skips s) in
+    past_blanks.same ∙ ap words (sym left) ∙ words_more t w o e (rw (k, left) (past_blanks.begins (omega (arith, at, inside))))
+
+pub words_none : (s : List ℕ) → position other s ≡ None → words s ≡ []
+words_none s h =
+    let none : length s ≤ position_or_len other s = grind (arith, common_steps) in
+    (skips s).same ∙ rw (drop_all (position_or_len other s) s none)

@@ -1,6 +1,7 @@
 -- Texts cut at marks. Assumes nothing.
 use Rattle.std.specs.Prelude.{◌≡◌, ℕ, ◌<◌, Bool, true, false, cond, ◌||◌, List, [], ◌∷◌, length, Some, None, filter, Option, ◌==◌}
 use Rattle.std.specs.Borrow.{Bor}
+use Rattle.std.specs.List.{onto_first}
 use Rattle.text.specs.declared.cuts.Mark.{Mark}
 use Rattle.text.specs.declared.cuts.Mark.TheVariants.{Newline, Blank, Colon, Comma, Slash, Equals, Hash}
 
@@ -23,9 +24,9 @@ abbrev pub past : (ℕ → Bool) → List ℕ → Option (List ℕ)
 past p [] = None
 past p (b ∷ bs) = cond (p b) (Some bs) (past p bs)
 
+-- a byte put before the first part, which it is where there is none
 abbrev pub onto : ℕ → List (List ℕ) → List (List ℕ)
-onto b [] = (b ∷ []) ∷ []
-onto b (l ∷ ls) = (b ∷ l) ∷ ls
+onto b ls = onto_first b ls
 
 -- the parts between marks, where e are the parts of nothing
 abbrev pub parted : List (List ℕ) → (ℕ → Bool) → List ℕ → List (List ℕ)

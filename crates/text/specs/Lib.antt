@@ -3,3 +3,4 @@ pub mod Cuts
 pub mod Paths
 pub mod Kept
 pub mod PartLaws
+pub mod Parts

@@ -1,7 +1,7 @@
-// What a name is, and whether two texts are the same.
+// What a name is.
 ghost use Rattle.std.specs.Prelude.{◌≡◌};
-ghost use Rattle.std.specs.Str.{bytes_eq};
-ghost use Rattle.text.specs.Bytes.{name_byte, all, name};
+ghost use Rattle.std.specs.List.{list_all};
+ghost use Rattle.text.specs.Bytes.{name_byte, name_form, name};
 
 // Whether a name may hold the byte.
 fn is_name_byte(b: u8) -> bool
@@ -15,32 +15,27 @@ fn is_name_byte(b: u8) -> bool
 }
 
 fn are_name_bytes(s: &[u8]) -> bool
-    ensures { result ≡ all name_byte s.now }
+    ensures { result ≡ list_all name_byte s.now }
 {
-    for b in s {
-        if !is_name_byte(*b) {
-            return false;
-        }
-    }
-    true
+    s.iter().all(|b| is_name_byte(*b))
 }
 
-// A name: 1 to 31 such bytes, the first no plus, minus or number sign.
-pub fn is_name(s: &[u8]) -> bool
-    ensures { result ≡ name s.now }
+// What a name is like: its bytes are such, and the first is no plus, minus or number sign.
+pub(crate) fn is_name_form(s: &[u8]) -> bool
+    ensures { result ≡ name_form s.now }
 {
     let [first, ..] = s else {
         return false;
     };
     match *first as char {
         '+' | '-' | '#' => false,
-        _ => s.len() <= 31 && are_name_bytes(s),
+        _ => are_name_bytes(s),
     }
 }
 
-// Whether two texts have the same bytes.
-pub fn is_text(s: &[u8], t: &[u8]) -> bool
-    ensures { result ≡ bytes_eq s.now t.now }
+// A name: 1 to 31 bytes.
+pub fn is_name(s: &[u8]) -> bool
+    ensures { result ≡ name s.now }
 {
-    s == t
+    s.len() <= 31 && is_name_form(s)
 }

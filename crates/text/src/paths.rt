@@ -1,57 +1,52 @@
 // What a path is, and the directory above it.
 ghost use Rattle.std.specs.Prelude.{◌≡◌};
-ghost use Rattle.text.specs.Bytes.{all, part};
+ghost use Rattle.std.specs.List.{list_all};
+ghost use Rattle.text.specs.Bytes.{part};
 ghost use Rattle.text.specs.Cuts.{fields};
-ghost use Rattle.text.specs.Paths.{path, parent};
+ghost use Rattle.text.specs.Paths.{path_form, path, parent};
 ghost use Rattle.text.specs.declared.cuts.Mark.TheVariants.{Slash};
 
-use crate::cuts::{Mark, cut};
-use crate::names::{is_name, is_text};
+use crate::cuts::Mark;
+use crate::names::is_name;
+use crate::parts::fields;
 
 fn is_part(s: &[u8]) -> bool
     ensures { result ≡ part s.now }
 {
-    is_name(s) && !is_text(s, b".") && !is_text(s, b"..")
+    match s {
+        b"." | b".." => false,
+        _ => is_name(s),
+    }
 }
 
 fn are_parts(s: &[u8]) -> bool
-    ensures { result ≡ all part (fields Slash s.now) }
+    ensures { result ≡ list_all part (fields Slash s.now) }
 {
-    let mut rest = s;
-    loop {
-        let (part, after) = cut(rest, Mark::Slash);
-        if !is_part(part) {
-            return false;
-        }
-        let Some(next) = after else {
-            return true;
-        };
-        rest = next;
+    fields(s, Mark::Slash).all(|p| is_part(p))
+}
+
+// A slash alone, or parts that are each a slash and a name.
+pub(crate) fn is_path_form(s: &[u8]) -> bool
+    ensures { result ≡ path_form s.now }
+{
+    match s {
+        b"/" => true,
+        [b'/', parts @ ..] => are_parts(parts),
+        _ => false,
     }
 }
 
-// A path: a slash alone, or parts that are each a slash and a name, 63 bytes at most.
+// A path: 63 bytes at most.
 pub fn is_path(s: &[u8]) -> bool
     ensures { result ≡ path s.now }
 {
-    if is_text(s, b"/") {
-        return true;
-    }
-    match s {
-        [b'/', parts @ ..] => s.len() <= 63 && are_parts(parts),
-        _ => false,
-    }
+    s.len() <= 63 && is_path_form(s)
 }
 
 // The directory above: the path without its last part.
 pub fn parent_of<'a>(path: &'a [u8]) -> &'a [u8]
     ensures { result.now ≡ parent path.now }
 {
-    let mut last = 0;
-    for (i, b) in path.iter().enumerate() {
-        if *b == b'/' {
-            last = i;
-        }
-    }
-    if last == 0 { b"/" } else { &path[0..last] }
+    let last = path.iter().rposition(|b| *b == b'/').unwrap_or(0);
+    if last == 0 { b"/" } else { &path[..last] }
 }

@@ -1,4 +1,5 @@
 pub mod Asking
+pub mod Made
 pub mod Running
 pub mod SetLaws
 pub mod Standing

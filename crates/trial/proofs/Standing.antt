@@ -1,8 +1,10 @@
 -- A change carries the lists as it carries the ledger.
 use Rattle.std.proofs.Common.{◌≡◌, ℕ, suc, ◌<◌, Bool, true, false, cond, not, ◌&&◌, ◌||◌, eqb, ltb, List, [], ◌∷◌, ◌++◌, length, is_ok, Ok, Err, sym, refl, ap, ◌∙◌, subst, ap₂, arith, length-append}
-use Rattle.std.proofs.lemmas.Bool.{cond_both, and_parts, and_from, both_ways, ltb-true}
+use Rattle.std.proofs.lemmas.Bool.{cond_both, and_parts, and_from, ltb-true}
+use Rattle.std.specs.List.{list_any}
+use Rattle.std.proofs.lemmas.List.Folds.{list_all-append}
 use Rattle.rules.specs.Rules.{Rules}
-use Rattle.layers.specs.Layers.{some, without, is_pair, is_bar, room}
+use Rattle.layers.specs.Layers.{without, is_pair, is_bar, room}
 use Rattle.trial.specs.Sets.{Members, joined, parted, has, Tells, Lists, same_pair}
 use Rattle.layers.specs.Answers.{Answer, numbered, adding, taking}
 use Rattle.trial.specs.Ledger.{Ledger, adds, takes, verdict, entered, next}
@@ -13,14 +15,14 @@ use Rattle.trial.proofs.SetLaws.{eqb_tells_all, pair_tells, has_push, has-withou
 
 adding_ok : (a b c : Bool) → is_ok (adding a b c) ≡ true → (a ≡ true) × (b ≡ false) × (c ≡ true)
 adding_ok true false true e = (refl, refl, refl)
-adding_ok true false false e = absurd (both_ways false refl e)
-adding_ok true true c e = absurd (both_ways false refl e)
-adding_ok false b c e = absurd (both_ways false refl e)
+adding_ok true false false e = cc
+adding_ok true true c e = cc
+adding_ok false b c e = cc
 
 taking_ok : (a b : Bool) → is_ok (taking a b) ≡ true → b ≡ true
 taking_ok true true e = refl
-taking_ok true false e = absurd (both_ways false refl e)
-taking_ok false b e = absurd (both_ways false refl e)
+taking_ok true false e = cc
+taking_ok false b e = cc
 
 numbered-adding : (a b c : Bool) → numbered (adding a b c) ≡ adds a b c
 numbered-adding true true c = refl
@@ -37,10 +39,6 @@ numbered_ok : (r : Answer) → is_ok r ≡ is_ok (numbered r)
 numbered_ok (Ok u) = refl
 numbered_ok (Err e) = refl
 
-alive_push : (live : ℕ → Bool) (ps : List (ℕ × ℕ)) (p g : ℕ) → alive live ps ≡ true → live p ≡ true → live g ≡ true → alive live (ps ++ (p, g) ∷ []) ≡ true
-alive_push live [] p g a hp hg = and_from _ _ (and_from _ _ hp hg) refl
-alive_push live (x ∷ ps) p g a hp hg = let b = and_parts _ _ a in and_from _ _ b.0 (alive_push live ps p g b.1 hp hg)
-
 alive-without : (live : ℕ → Bool) (t : ℕ × ℕ → Bool) (ps : List (ℕ × ℕ)) → alive live ps ≡ true → alive live (without t ps) ≡ true
 alive-without live t [] a = a
 alive-without live t (x ∷ ps) a =
@@ -48,13 +46,9 @@ alive-without live t (x ∷ ps) a =
     cond_both (t x) ps (x ∷ without t ps) (λ ys. alive live ys ≡ true) (λ _. b.1) (λ _. and_from _ _ b.0 (alive-without live t ps b.1))
 
 -- one less
-fewer : {X : Type 0} (t : X → Bool) (xs : List X) → some t xs ≡ true → suc (length (without t xs)) ≡ length xs
-fewer t [] h = absurd (both_ways false refl h)
-fewer {X} t (x ∷ xs) h = go (t x) (fewer t xs) h
-  where
-    go : (b : Bool) → (some t xs ≡ true → suc (length (without t xs)) ≡ length xs) → (b || some t xs) ≡ true → suc (length (cond b xs (x ∷ without t xs))) ≡ suc (length xs)
-    go true less k = refl
-    go false less k = ap suc (less k)
+fewer : {X : Type 0} (t : X → Bool) (xs : List X) → list_any t xs ≡ true → suc (length (without t xs)) ≡ length xs
+fewer t [] h = cc
+fewer t (x ∷ xs) h = let less = fewer t xs in cond_both (t x) xs (x ∷ without t xs) (λ ys. suc (length ys) ≡ suc (length xs)) (λ _. refl) (λ f. grind arith)
 
 module _ {X : Type 0} (e : X → X → Bool) (tells : Tells e) (x : X) (xs : List X) (s : Members X) (is : Lists e xs s) where
   lists-push : has e x xs ≡ false → Lists e (xs ++ x ∷ []) (joined e x s)
@@ -73,24 +67,23 @@ module _ {X : Type 0} (e : X → X → Bool) (tells : Tells e) (x : X) (xs : Lis
 
 module _ (R : Rules) (T : Tables) (l : Ledger) (st : Stands R T l) where
   same-verdict : (c : Change) → numbered (list_verdict R T c) ≡ verdict R l c
-  same-verdict (Assume p g) = numbered-adding (R.live p && R.live g) (some (is_pair p g) T.assumed) (ltb (length T.assumed) (room R)) ∙ ap₂ (λ (b : Bool) (n : ℕ). adds (R.live p && R.live g) b (ltb n (room R))) (sym (st.pairs.same_members (p, g))) (sym st.pairs.as_many)
-  same-verdict (Withdraw p g) = numbered-taking (R.live p && R.live g) (some (is_pair p g) T.assumed) ∙ ap (λ (b : Bool). takes (R.live p && R.live g) b) (sym (st.pairs.same_members (p, g)))
-  same-verdict (Bar p) = numbered-adding (R.live p) (some (is_bar p) T.barred) (ltb (length T.barred) 32) ∙ ap₂ (λ (b : Bool) (n : ℕ). adds (R.live p) b (ltb n 32)) (sym (st.bars.same_members p)) (sym st.bars.as_many)
-  same-verdict (Lift p) = numbered-taking (R.live p) (some (is_bar p) T.barred) ∙ ap (λ (b : Bool). takes (R.live p) b) (sym (st.bars.same_members p))
+  same-verdict (Assume p g) = numbered-adding (R.live p && R.live g) (list_any (is_pair p g) T.assumed) (ltb (length T.assumed) (room R)) ∙ ap₂ (λ (b : Bool) (n : ℕ). adds (R.live p && R.live g) b (ltb n (room R))) (sym (st.pairs.same_members (p, g))) (sym st.pairs.as_many)
+  same-verdict (Withdraw p g) = numbered-taking (R.live p && R.live g) (list_any (is_pair p g) T.assumed) ∙ ap (λ (b : Bool). takes (R.live p && R.live g) b) (sym (st.pairs.same_members (p, g)))
+  same-verdict (Bar p) = numbered-adding (R.live p) (list_any (is_bar p) T.barred) (ltb (length T.barred) 32) ∙ ap₂ (λ (b : Bool) (n : ℕ). adds (R.live p) b (ltb n 32)) (sym (st.bars.same_members p)) (sym st.bars.as_many)
+  same-verdict (Lift p) = numbered-taking (R.live p) (list_any (is_bar p) T.barred) ∙ ap (λ (b : Bool). takes (R.live p) b) (sym (st.bars.same_members p))
 
   entered-stands : (c : Change) → is_ok (list_verdict R T c) ≡ true → Stands R (list_entered T c) (entered l c)
   entered-stands (Assume p g) ok =
-      let h = adding_ok (R.live p && R.live g) (some (is_pair p g) T.assumed) (ltb (length T.assumed) (room R)) ok in
-      let two = and_parts (R.live p) (R.live g) h.0 in
+      let h = adding_ok (R.live p && R.live g) (list_any (is_pair p g) T.assumed) (ltb (length T.assumed) (room R)) ok in
       let lt : length T.assumed < room R = ltb-true _ _ h.2 in
       record {
         pairs = lists-push same_pair pair_tells (p, g) T.assumed l.assumed st.pairs h.1;
         bars = st.bars;
         within_room = simp length-append (omega arith);
-        all_live = alive_push R.live T.assumed p g st.all_live two.0 two.1;
+        all_live = list_all-append (λ x. R.live x.0 && R.live x.1) T.assumed ((p, g) ∷ []) ∙ and_from _ _ st.all_live (and_from _ _ h.0 refl);
       }
   entered-stands (Withdraw p g) ok =
-      let there = taking_ok (R.live p && R.live g) (some (is_pair p g) T.assumed) ok in
+      let there = taking_ok (R.live p && R.live g) (list_any (is_pair p g) T.assumed) ok in
       record {
         pairs = lists-without same_pair pair_tells (p, g) T.assumed l.assumed st.pairs there;
         bars = st.bars;
@@ -98,10 +91,10 @@ module _ (R : Rules) (T : Tables) (l : Ledger) (st : Stands R T l) where
         all_live = alive-without R.live (is_pair p g) T.assumed st.all_live;
       }
   entered-stands (Bar p) ok =
-      let h = adding_ok (R.live p) (some (is_bar p) T.barred) (ltb (length T.barred) 32) ok in
+      let h = adding_ok (R.live p) (list_any (is_bar p) T.barred) (ltb (length T.barred) 32) ok in
       record { pairs = st.pairs; bars = lists-push eqb eqb_tells_all p T.barred l.barred st.bars h.1; within_room = st.within_room; all_live = st.all_live }
   entered-stands (Lift p) ok =
-      let there = taking_ok (R.live p) (some (is_bar p) T.barred) ok in
+      let there = taking_ok (R.live p) (list_any (is_bar p) T.barred) ok in
       record { pairs = st.pairs; bars = lists-without eqb eqb_tells_all p T.barred l.barred st.bars there; within_room = st.within_room; all_live = st.all_live }
 
   next-stands : (c : Change) → Stands R (list_next R T c) (next R l c)
@@ -109,8 +102,8 @@ module _ (R : Rules) (T : Tables) (l : Ledger) (st : Stands R T l) where
     where
       go : (a b : Bool) → a ≡ b → (a ≡ true → Stands R (list_entered T c) (entered l c)) → Stands R (cond a (list_entered T c) T) (cond b (entered l c) l)
       go true true e f = f refl
-      go true false e f = absurd (both_ways false refl (sym e))
-      go false true e f = absurd (both_ways false refl e)
+      go true false e f = cc
+      go false true e f = cc
       go false false e f = st
 
 pub carried : (R : Rules) (T₀ T : Tables) (c : Change) (r : Answer) → r ≡ list_verdict R T₀ c → T ≡ list_next R T₀ c → Carries R T₀ T c r

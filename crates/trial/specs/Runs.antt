@@ -1,16 +1,27 @@
 -- Whole runs: a list of calls, what each is replied, and the ledger that is fed the same calls.
 use Rattle.std.specs.Prelude.{◌≡◌, ℕ, ◌<◌, ◌≤◌, Bool, List, [], ◌∷◌, length, take, Ok, Err, vec_items, Result}
 use Rattle.rules.specs.Rules.{Rules}
+use Rattle.rules.specs.declared.source.RuleSource.{Ghosts}
 use Rattle.search.specs.Questions.{HeldIn, Bits, BadByte, AllAlive, SomeDead, Chainless, LeastPlan, Exactly}
 use Rattle.search.specs.Refusals.{refusal}
 use Rattle.search.specs.declared.answer.Refusal.{Refusal as Unanswered}
 use Rattle.layers.specs.Answers.{numbered}
 use Rattle.trial.specs.Ledger.{Ledger, LedgerGrants, LedgerRule, verdict, next}
+use Rattle.trial.specs.Trials.{source_of}
 use Rattle.trial.specs.declared.calls.Call.{Call}
 use Rattle.trial.specs.declared.calls.Call.TheVariants.{Change, Ask}
 use Rattle.trial.specs.declared.calls.Reply.{Reply}
 use Rattle.trial.specs.declared.calls.Reply.TheVariants.{Changed, Asked}
 use Rattle.trial.specs.declared.calls.Plan.{Plan}
+use Rattle.trial.specs.declared.prepared.Prepared.{Prepared}
+
+-- the source that a run is over, and its calls
+module _ {S W : Type 0} {G : Ghosts S} where
+  abbrev pub source_under : Prepared S W G → S
+  source_under d = source_of d.desk.trial
+
+  abbrev pub calls_of : Prepared S W G → List Call
+  calls_of d = d.calls.now
 
 -- the plan that is replied is a least plan by the ledger, with its rules beside it
 pub record Told {W : Type 0} (z : W) (add : W → Bool → W) (at_most : W → W → Bool) (R : Rules) (l : Ledger) (held : ℕ → Type 0) (t : ℕ) (a : Plan W) : Type 0 where

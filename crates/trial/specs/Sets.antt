@@ -1,6 +1,6 @@
 -- Finite sets: who is in, and how many. And what it takes for a list to have the members of one.
 use Rattle.std.specs.Prelude.{◌≡◌, ℕ, ◌+◌, ◌-◌, Bool, true, false, not, ◌&&◌, ◌||◌, List, [], ◌∷◌, length, ◌==◌}
-use Rattle.layers.specs.Layers.{some}
+use Rattle.std.specs.List.{list_any}
 
 -- a finite set, by who belongs and how many do: no list, no order
 pub record Members (X : Type 0) : Type 0 where
@@ -26,7 +26,7 @@ same_pair x y = x.0 == y.0 && x.1 == y.1
 module _ {X : Type 0} (e : X → X → Bool) where
   -- x stands in the list
   abbrev pub has : X → List X → Bool
-  has x xs = some (λ y. e y x) xs
+  has x xs = list_any (λ y. e y x) xs
 
   -- none stands twice in it
   abbrev pub apart : List X → Bool

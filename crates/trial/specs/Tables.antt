@@ -1,5 +1,6 @@
 -- The two lists that a trial keeps, and the ledger that they stand for.
 use Rattle.std.specs.Prelude.{◌≡◌, ℕ, ◌≤◌, Bool, true, cond, ◌&&◌, List, [], ◌∷◌, ◌++◌, length, is_ok, nat_eq}
+use Rattle.std.specs.List.{list_all}
 use Rattle.rules.specs.Rules.{Rules}
 use Rattle.layers.specs.Layers.{room, without, is_pair, is_bar, with_assumed, with_barred}
 use Rattle.layers.specs.Answers.{Answer, numbered, assume_answer, withdraw_answer, bar_answer, lift_answer}
@@ -37,8 +38,7 @@ with_tables R T = with_barred (with_assumed R T.assumed) T.barred
 
 -- both ends of each pair are live
 abbrev pub alive : (ℕ → Bool) → List (ℕ × ℕ) → Bool
-alive live [] = true
-alive live (x ∷ xs) = live x.0 && live x.1 && alive live xs
+alive live ps = list_all (λ x. live x.0 && live x.1) ps
 
 -- the lists stand for the ledger: the same members, each once, no more pairs than there is room for, and all of them live
 pub record Stands (R : Rules) (T : Tables) (l : Ledger) : Type 0 where

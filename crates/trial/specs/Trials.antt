@@ -1,11 +1,10 @@
 -- What a trial holds.
-use Rattle.std.specs.Prelude.{vec_items}
 use Rattle.trial.specs.Tables.{Tables}
 use Rattle.trial.specs.declared.trials.Trial.{Trial}
 
 -- its two lists
 abbrev pub lists_of : {S : Type 0} → Trial S → Tables
-lists_of t = record { assumed = vec_items t.tables.source.pairs; barred = vec_items t.tables.barred }
+lists_of t = record { assumed = t.tables.source.pairs; barred = t.tables.barred }
 
 -- the source that it is over
 abbrev pub source_of : {S : Type 0} → Trial S → S

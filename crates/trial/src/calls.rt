@@ -1,5 +1,6 @@
 use layers::refusal::Refusal;
 use search::answer::{Found, Refusal as Unanswered};
+use std::alloc::{AllocError, Global};
 
 // What changes a trial.
 #[derive(Clone, Copy)]
@@ -39,4 +40,18 @@ pub enum Reply<W> {
 pub struct PlanMemory {
     pub plan: Vec<u16>,
     pub rules: Vec<u8>,
+}
+
+impl PlanMemory {
+    ghost use Rattle.std.specs.Prelude.{IfOk};
+    ghost use Rattle.trial.specs.Preparing.{Wide};
+
+    // Memory for a plan of n privileges.
+    pub(crate) fn new(heap: Global, n: usize) -> Result<PlanMemory, AllocError>
+        ensures { IfOk result (Wide n) }
+    {
+        let plan = vec![in heap; 0u16; n]?;
+        let rules = vec![in heap; 0u8; n]?;
+        Ok(PlanMemory { plan, rules })
+    }
 }

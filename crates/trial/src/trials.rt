@@ -1,4 +1,5 @@
-ghost use Rattle.std.specs.Prelude.{◌≡◌, IfOk};
+ghost use Rattle.std.specs.Prelude.{◌≡◌, IfOk, refl};
+ghost use Rattle.rules.proofs.Naming.{passed_on};
 ghost use Rattle.layers.specs.Layered.{assumed_lawful, barred_lawful};
 ghost use Rattle.search.specs.Questions.{Asked};
 ghost use Rattle.trial.specs.Ledger.{Ledger, LedgerGrants, LedgerRule, empty};
@@ -7,6 +8,7 @@ ghost use Rattle.trial.specs.Trials.{lists_of, source_of};
 ghost use Rattle.trial.specs.declared.calls.Change.TheVariants.{Assume, Withdraw, Bar, Lift};
 
 use crate::calls::Change;
+use bounded::ArrayVec;
 use layers::assumed::Assumed;
 use layers::barred::Barred;
 use layers::refusal::Refusal;
@@ -77,15 +79,6 @@ impl<S: RuleSource> Trial<S> {
         ensures lists { lists_of self.new ≡ list_next (S.meaning (source_of self.old)) (lists_of self.old) change }
         ensures same { source_of self.new ≡ source_of self.old }
     {
-        self.enter(change)
-    }
-
-    // What a change does to the two lists.
-    fn enter(&mut self, change: Change) -> Result<(), Refusal>
-        ensures answer { result ≡ list_verdict (S.meaning (source_of self.old)) (lists_of self.old) change }
-        ensures after { lists_of self.new ≡ list_next (S.meaning (source_of self.old)) (lists_of self.old) change }
-        ensures same { source_of self.new ≡ source_of self.old }
-    {
         match change {
             Change::Assume(p, g) => self.tables.source.assume(p, g),
             Change::Withdraw(p, g) => self.tables.source.withdraw(p, g),
@@ -110,7 +103,7 @@ impl<S: RuleSource> Trial<S> {
     }
 }
 
-// A trial is a source itself: the source under its two lists.
+// A trial is a source itself: the source under its two lists. Each answer is handed on by hand: an alias of the two layers would let their lists be changed past the trial's calls.
 impl<S: RuleSource> RuleSource for Trial<S> {
     ghost meaning = { λ t. with_tables (S.RuleSource.meaning (source_of t)) (lists_of t) };
 
@@ -141,17 +134,9 @@ impl<S: RuleSource> RuleSource for Trial<S> {
 impl<S: Named> Named for Trial<S> {
     ghost form = { λ t p. S.Named.form (source_of t) p };
 
-    ghost named = { λ s.
-        let below = S.Named.named (source_of s) in
-        record {
-          live_has_a_form = below.live_has_a_form;
-          dead_has_none = below.dead_has_none;
-          at_most_128_bytes = below.at_most_128_bytes;
-          printable = below.printable;
-          never_alike = below.never_alike;
-        } };
+    ghost named = { λ t. passed_on refl (S.Named.named (source_of t)) };
 
-    fn print(&self, p: u16, out: &mut [u8; 128]) -> usize {
-        self.tables.print(p, out)
+    fn print(&self, p: u16) -> ArrayVec<u8, 128> {
+        self.tables.print(p)
     }
 }

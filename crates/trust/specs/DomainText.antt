@@ -7,6 +7,7 @@ use Rattle.text.specs.Cuts.{words}
 use Rattle.text.specs.Kept.{name_in}
 use Rattle.region.specs.Tables.{DomainEntry}
 use Rattle.reading.specs.declared.fault.LineFault.{LineFault}
+use Rattle.reading.specs.declared.fault.Refusal.{Refusal}
 use Rattle.reading.specs.declared.fault.Refusal.TheVariants.{Fields, BadName, Unknown, Full, NotCovered}
 use Rattle.reading.specs.Reads.{wants, needs, and_then, passed_over, read_text}
 use Rattle.tables.specs.HostsText.{host_place}
@@ -37,22 +38,22 @@ four_words (a ∷ (b ∷ (c ∷ []))) = None
 four_words (a ∷ (b ∷ (c ∷ (d ∷ [])))) = Some (record { first = a; name = b; third = c; server = d })
 four_words (a ∷ (b ∷ (c ∷ (d ∷ (e ∷ es))))) = None
 
--- the domain that line n gives, with a server among the hosts
-abbrev pub domain_line_in : List (List ℕ) → ℕ → List ℕ → Result DomainEntry LineFault
-domain_line_in hosts n l =
-    wants Fields n (four_words (words l)) (λ w.
-    needs NotCovered n (bytes_eq w.first (codes "domain") && bytes_eq w.third (codes "server"))
-    (wants BadName n (name_in w.name) (λ d.
-    needs BadName n (name w.server)
-    (wants Unknown n (host_place w.server hosts) (λ s.
+-- the domain that a line gives, with a server among the hosts
+abbrev pub domain_line_in : List (List ℕ) → List ℕ → Result DomainEntry Refusal
+domain_line_in hosts l =
+    wants Fields (four_words (words l)) (λ w.
+    needs NotCovered (bytes_eq w.first (codes "domain") && bytes_eq w.third (codes "server"))
+    (wants BadName (name_in w.name) (λ d.
+    needs BadName (name w.server)
+    (wants Unknown (host_place w.server hosts) (λ s.
     Ok (record { name = d; server = s }))))))
 
--- the domain after line n
-abbrev pub domain_step : List (List ℕ) → ℕ → Option DomainEntry → List ℕ → Result (Option DomainEntry) LineFault
-domain_step hosts n found l =
+-- the domain after a line
+abbrev pub domain_step : List (List ℕ) → Option DomainEntry → List ℕ → Result (Option DomainEntry) Refusal
+domain_step hosts found l =
     cond (passed_over l) (Ok found)
-    (and_then (domain_line_in hosts n l) (λ d.
-    needs Full n (not (is_some found)) (Ok (Some d))))
+    (and_then (domain_line_in hosts l) (λ d.
+    needs Full (not (is_some found)) (Ok (Some d))))
 
 -- the domain that a text gives, if any, or its first bad line
 abbrev pub domain_in : List (List ℕ) → List ℕ → Result (Option DomainEntry) LineFault

@@ -1,11 +1,12 @@
 -- What hosts.equiv and a .rhosts say. Assumes nothing.
-use Rattle.std.specs.Prelude.{ℕ, Bool, false, cond, not, ◌&&◌, ◌||◌, List, [], ◌∷◌, map, Some, None, Ok, vec_items, codes, Option, Result, ◌==◌}
+use Rattle.std.specs.Prelude.{ℕ, Bool, false, cond, not, ◌&&◌, ◌||◌, List, [], ◌∷◌, map, Some, None, Ok, codes, Option, Result, ◌==◌}
 use Rattle.std.specs.Option.{option_map}
 use Rattle.std.specs.Str.{bytes_eq}
 use Rattle.text.specs.Cuts.{words}
 use Rattle.text.specs.Kept.{name_in}
 use Rattle.region.specs.Tables.{TrustWord, anyone, named, TrustEntry}
 use Rattle.reading.specs.declared.fault.LineFault.{LineFault}
+use Rattle.reading.specs.declared.fault.Refusal.{Refusal}
 use Rattle.reading.specs.declared.fault.Refusal.TheVariants.{Fields, BadName, NotCovered}
 use Rattle.reading.specs.Reads.{wants, needs, and_then, passed_over, read_text}
 use Rattle.tables.specs.Steps.{with_row}
@@ -15,7 +16,7 @@ use Rattle.trust.specs.Rows.{trust_entry}
 
 -- the lines that a table holds
 abbrev pub trust_of : {most : ℕ} → TrustLines most → List TrustEntry
-trust_of t = map trust_entry (vec_items t.rows)
+trust_of t = map trust_entry t.rows
 
 -- a host word, and perhaps a user word
 pub record LineWords : Type 0 where
@@ -52,22 +53,22 @@ uncovered_in w = uncovered w.host || uncovered_user w.user
 abbrev pub word_in : List ℕ → Option TrustWord
 word_in w = cond (bytes_eq w (codes "+")) (Some anyone) (option_map named (name_in w))
 
-abbrev pub user_in : ℕ → Option (List ℕ) → Result (Option TrustWord) LineFault
-user_in n None = Ok None
-user_in n (Some w) = wants BadName n (word_in w) (λ u. Ok (Some u))
+abbrev pub user_in : Option (List ℕ) → Result (Option TrustWord) Refusal
+user_in None = Ok None
+user_in (Some w) = wants BadName (word_in w) (λ u. Ok (Some u))
 
--- the trust that line n gives
-abbrev pub line_in : ℕ → List ℕ → Result TrustEntry LineFault
-line_in n l =
-    wants Fields n (one_or_two (words l)) (λ w.
-    needs NotCovered n (not (uncovered_in w))
-    (wants BadName n (word_in w.host) (λ h.
-    and_then (user_in n w.user) (λ u.
+-- the trust that a line gives
+abbrev pub line_in : List ℕ → Result TrustEntry Refusal
+line_in l =
+    wants Fields (one_or_two (words l)) (λ w.
+    needs NotCovered (not (uncovered_in w))
+    (wants BadName (word_in w.host) (λ h.
+    and_then (user_in w.user) (λ u.
     Ok (record { host = h; user = u })))))
 
--- the lines after line n, in a table that has room for most
-abbrev pub trust_step : ℕ → ℕ → List TrustEntry → List ℕ → Result (List TrustEntry) LineFault
-trust_step most n rows l = cond (passed_over l) (Ok rows) (and_then (line_in n l) (λ x. with_row most n rows x))
+-- the lines after a line, in a table that has room for most
+abbrev pub trust_step : ℕ → List TrustEntry → List ℕ → Result (List TrustEntry) Refusal
+trust_step most rows l = cond (passed_over l) (Ok rows) (and_then (line_in l) (λ x. with_row most rows x))
 
 -- the lines that a text gives, or its first bad line
 abbrev pub trust_in : ℕ → List ℕ → Result (List TrustEntry) LineFault

@@ -1,19 +1,18 @@
 // Reads yp.conf: at most one line, `domain`, the domain's name, `server`, and the name of a host.
-ghost use Rattle.std.specs.Prelude.{◌≡◌, ℕ, true, List, length, IfSome, is_ok, None, Option};
+ghost use Rattle.std.specs.Prelude.{◌≡◌, true, length, IfSome, is_ok, None, Option};
 ghost use Rattle.std.specs.Option.{option_map, option_to_list};
 ghost use Rattle.text.specs.Cuts.{words};
 ghost use Rattle.region.specs.Tables.{DomainEntry};
-ghost use Rattle.reading.specs.Reads.{ok_mapped, value_or};
+ghost use Rattle.reading.specs.Reads.{entry_lines, ok_mapped, text_told, value_or};
 ghost use Rattle.reading.specs.declared.fault.Kind.TheVariants.{Ypconf};
 ghost use Rattle.tables.specs.HostsText.{hosts_of};
-ghost use Rattle.tables.specs.Steps.{entry_lines, text_told};
 ghost use Rattle.trust.specs.Rows.{domain_entry};
 ghost use Rattle.trust.specs.Formed.{DomainFormed};
 ghost use Rattle.trust.specs.DomainText.{domain_words, four_words, domain_of, domain_line_in, domain_step, domain_in};
 
-use reading::{Kind, LineFault, Refusal, Table, TextFault, at, is_passed_over, read_text};
+use reading::{Kind, Refusal, Table, TextFault, is_passed_over, read_text};
 use tables::HostNames;
-use text::{Name, is_name, is_text, next_word};
+use text::{Name, is_name, words};
 
 // A domain, and the place of its server among the hosts.
 #[derive(Clone, Copy)]
@@ -34,71 +33,48 @@ struct Words<'a> {
 fn words_of<'a>(line: &'a [u8]) -> Option<Words<'a>>
     ensures { option_map domain_words result ≡ four_words (words line.now) }
 {
-    let (first, past_first) = next_word(line)?;
-    let (name, past_name) = next_word(past_first)?;
-    let (third, past_third) = next_word(past_name)?;
-    let (server, past_server) = next_word(past_third)?;
-    match next_word(past_server) {
-        Some(_) => None,
-        None => Some(Words {
-            first,
-            name,
-            third,
-            server,
-        }),
+    let mut parts = words(line);
+    let first = parts.next()?;
+    let name = parts.next()?;
+    let third = parts.next()?;
+    let server = parts.next()?;
+    if parts.next().is_some() {
+        return None;
     }
+    Some(Words {
+        first,
+        name,
+        third,
+        server,
+    })
 }
 
-fn domain_of(n: u32, hosts: &HostNames, line: &[u8]) -> Result<Domain, LineFault>
-    ensures { ok_mapped domain_entry result ≡ domain_line_in (hosts_of hosts.now) n line.now }
+fn domain_of(hosts: &HostNames, line: &[u8]) -> Result<Domain, Refusal>
+    ensures { ok_mapped domain_entry result ≡ domain_line_in (hosts_of hosts.now) line.now }
 {
-    let Some(found) = words_of(line) else {
-        return Err(LineFault {
-            refusal: Refusal::Fields,
-            line: n,
-        });
-    };
-    if !is_text(found.first, b"domain") || !is_text(found.third, b"server") {
-        return Err(LineFault {
-            refusal: Refusal::NotCovered,
-            line: n,
-        });
+    let found = words_of(line).ok_or(Refusal::Fields)?;
+    if found.first != b"domain".as_slice() || found.third != b"server".as_slice() {
+        return Err(Refusal::NotCovered);
     }
-    let Some(name) = Name::new(found.name) else {
-        return Err(LineFault {
-            refusal: Refusal::BadName,
-            line: n,
-        });
-    };
+    let name = Name::new(found.name).ok_or(Refusal::BadName)?;
     if !is_name(found.server) {
-        return Err(LineFault {
-            refusal: Refusal::BadName,
-            line: n,
-        });
+        return Err(Refusal::BadName);
     }
-    let Some(server) = hosts.place_of(found.server) else {
-        return Err(LineFault {
-            refusal: Refusal::Unknown,
-            line: n,
-        });
-    };
+    let server = hosts.place_of(found.server).ok_or(Refusal::Unknown)?;
     Ok(Domain {
         name,
         server: server as u8,
     })
 }
 
-// The domain while it is read, beside the hosts that its server is looked up in.
+// The domain while it is read.
 #[derive(Drop)]
-struct Reading<'a> {
-    hosts: &'a HostNames,
+struct Found {
     domain: Option<Domain>,
 }
 
-impl<'a> Table for Reading<'a> {
-    ghost Kept = { List (List ℕ) };
-
-    ghost kept = { λ t. hosts_of t.hosts.now };
+impl Table for Found {
+    type Beside = HostNames;
 
     ghost Seen = { Option DomainEntry };
 
@@ -106,22 +82,19 @@ impl<'a> Table for Reading<'a> {
 
     ghost first = { None };
 
-    ghost step = { λ hosts n found l. domain_step hosts n found l };
+    ghost step = { λ hosts found l. domain_step (hosts_of hosts) found l };
 
     fn clear(&mut self) {
         self.domain = None;
     }
 
-    fn line(&mut self, n: u32, line: &[u8]) -> Result<(), LineFault> {
+    fn line(&mut self, hosts: &HostNames, line: &[u8]) -> Result<(), Refusal> {
         if is_passed_over(line) {
             return Ok(());
         }
-        let domain = domain_of(n, self.hosts, line)?;
+        let domain = domain_of(hosts, line)?;
         if self.domain.is_some() {
-            return Err(LineFault {
-                refusal: Refusal::Full,
-                line: n,
-            });
+            return Err(Refusal::Full);
         }
         self.domain = Some(domain);
         Ok(())
@@ -139,12 +112,8 @@ pub fn read_domain(
     ensures formed { IfSome (domain_of domain.new) (DomainFormed (hosts_of hosts.now)) }
     ensures counted { is_ok result ≡ true → length (option_to_list (domain_of domain.new)) ≡ length (entry_lines text.now) }
 {
-    let mut reading = Reading {
-        hosts,
-        domain: *domain,
-    };
-    let read = read_text(&mut reading, text);
-    *domain = reading.domain;
-    at(Kind::Ypconf, read)?;
-    Ok(())
+    let mut found = Found { domain: None };
+    let read = read_text(Kind::Ypconf, &mut found, hosts, text);
+    *domain = found.domain;
+    read
 }

@@ -4,10 +4,10 @@ ghost use Rattle.std.specs.Option.{option_map};
 ghost use Rattle.text.specs.Cuts.{words};
 ghost use Rattle.reading.specs.Reads.{ok_mapped};
 ghost use Rattle.trust.specs.Rows.{trust_word, trust_entry};
-ghost use Rattle.trust.specs.TrustText.{line_words, one_or_two, begins, uncovered, uncovered_in, word_in, user_in, line_in};
+ghost use Rattle.trust.specs.TrustText.{line_words, one_or_two, uncovered, uncovered_in, word_in, user_in, line_in};
 
-use reading::{LineFault, Refusal};
-use text::{Name, is_text, next_word};
+use reading::Refusal;
+use text::{Name, words};
 
 // A plus, or a name.
 #[derive(Clone, Copy)]
@@ -32,100 +32,55 @@ struct Words<'a> {
 fn words_of<'a>(line: &'a [u8]) -> Option<Words<'a>>
     ensures { option_map line_words result ≡ one_or_two (words line.now) }
 {
-    let (host, past_host) = next_word(line)?;
-    let Some((user, past_user)) = next_word(past_host) else {
-        return Some(Words { host, user: None });
-    };
-    match next_word(past_user) {
-        Some(_) => None,
-        None => Some(Words {
-            host,
-            user: Some(user),
-        }),
+    let mut parts = words(line);
+    let host = parts.next()?;
+    let user = parts.next();
+    if parts.next().is_some() {
+        return None;
     }
-}
-
-fn begins_with(word: &[u8], byte: u8) -> bool
-    ensures { result ≡ begins byte word.now }
-{
-    match word.split_first() {
-        Some((first, _)) => *first == byte,
-        None => false,
-    }
+    Some(Words { host, user })
 }
 
 // Whether a word is a netgroup, or withdraws trust: neither is covered.
 fn is_uncovered(word: &[u8]) -> bool
     ensures { result ≡ uncovered word.now }
 {
-    match word.split_first() {
-        Some((first, rest)) => match *first as char {
-            '-' => true,
-            '+' => begins_with(rest, b'@'),
-            _ => false,
-        },
-        None => false,
-    }
+    matches!(word, [b'-', ..] | [b'+', b'@', ..])
 }
 
 fn has_uncovered(line: Words) -> bool
     ensures { result ≡ uncovered_in (line_words line.entry) }
 {
-    match line.user {
-        Some(user) => is_uncovered(line.host) || is_uncovered(user),
-        None => is_uncovered(line.host),
-    }
+    is_uncovered(line.host) || line.user.is_some_and(is_uncovered)
 }
 
 fn word_of(word: &[u8]) -> Option<TrustWord>
     ensures { option_map trust_word result ≡ word_in word.now }
 {
-    if is_text(word, b"+") {
-        return Some(TrustWord::Anyone);
-    }
-    match Name::new(word) {
-        Some(name) => Some(TrustWord::Named(name)),
-        None => None,
+    match word {
+        b"+" => Some(TrustWord::Anyone),
+        _ => Name::new(word).map(TrustWord::Named),
     }
 }
 
-fn user_of(n: u32, word: Option<&[u8]>) -> Result<Option<TrustWord>, LineFault>
-    ensures { ok_mapped (option_map trust_word) result ≡ user_in n (option_map (λ x. x.now) word.entry) }
+fn user_of(word: Option<&[u8]>) -> Result<Option<TrustWord>, Refusal>
+    ensures { ok_mapped (option_map trust_word) result ≡ user_in (option_map (λ x. x.now) word.entry) }
 {
-    let Some(text) = word else {
-        return Ok(None);
-    };
-    let Some(user) = word_of(text) else {
-        return Err(LineFault {
-            refusal: Refusal::BadName,
-            line: n,
-        });
-    };
-    Ok(Some(user))
+    match word {
+        Some(user) => Ok(Some(word_of(user).ok_or(Refusal::BadName)?)),
+        None => Ok(None),
+    }
 }
 
-// The trust that line n gives.
-pub fn line_of(n: u32, line: &[u8]) -> Result<TrustLine, LineFault>
-    ensures { ok_mapped trust_entry result ≡ line_in n line.now }
+// The trust that a line gives.
+pub fn line_of(line: &[u8]) -> Result<TrustLine, Refusal>
+    ensures { ok_mapped trust_entry result ≡ line_in line.now }
 {
-    let Some(found) = words_of(line) else {
-        return Err(LineFault {
-            refusal: Refusal::Fields,
-            line: n,
-        });
-    };
+    let found = words_of(line).ok_or(Refusal::Fields)?;
     if has_uncovered(found) {
-        return Err(LineFault {
-            refusal: Refusal::NotCovered,
-            line: n,
-        });
+        return Err(Refusal::NotCovered);
     }
-    let Some(host) = word_of(found.host) else {
-        return Err(LineFault {
-            refusal: Refusal::BadName,
-            line: n,
-        });
-    };
-    let user = user_of(n, found.user)?;
+    let host = word_of(found.host).ok_or(Refusal::BadName)?;
+    let user = user_of(found.user)?;
     Ok(TrustLine { host, user })
 }

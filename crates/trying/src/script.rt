@@ -1,12 +1,15 @@
 // A script: a verb alone on a line, then its forms, one a line.
 ghost use Rattle.std.specs.Prelude.{◌<◌, ◌≤◌, length, MatchOption};
 
+use answers::held_alone;
 use print::privilege_of;
 use rules::named::Named;
 use std::alloc::{AllocError, Global};
-use text::{is_text, next_line};
+use std::fmt;
+use text::next_line;
+use trial::calls::{Call, Change};
 
-#[derive(Clone, Copy)]
+#[derive(Clone, Copy, Debug, PartialEq, Eq)]
 pub enum Verb {
     Assume,
     Withdraw,
@@ -15,78 +18,96 @@ pub enum Verb {
     Ask,
 }
 
-impl Verb {
-    pub fn bytes(self) -> &'static [u8] {
-        match self {
-            Verb::Assume => b"assume",
-            Verb::Withdraw => b"withdraw",
-            Verb::Bar => b"bar",
-            Verb::Lift => b"lift",
-            Verb::Ask => b"ask",
-        }
-    }
+// A line that is no verb.
+#[derive(Clone, Copy, Debug, PartialEq, Eq)]
+pub struct NoVerb;
 
-    // Whether the verb has a second form: what is granted, or the goal.
-    pub fn has_two(self) -> bool {
-        match self {
-            Verb::Assume | Verb::Withdraw | Verb::Ask => true,
-            Verb::Bar | Verb::Lift => false,
+impl<'a> TryFrom<&'a [u8]> for Verb {
+    type Error = NoVerb;
+
+    fn try_from(line: &'a [u8]) -> Result<Verb, NoVerb> {
+        match line {
+            b"assume" => Ok(Verb::Assume),
+            b"withdraw" => Ok(Verb::Withdraw),
+            b"bar" => Ok(Verb::Bar),
+            b"lift" => Ok(Verb::Lift),
+            b"ask" => Ok(Verb::Ask),
+            _ => Err(NoVerb),
         }
     }
 }
 
+impl fmt::Display for Verb {
+    fn fmt<W: fmt::Write>(&self, f: &mut fmt::Formatter<W>) -> fmt::Result {
+        f.write_str(match self {
+            Verb::Assume => "assume",
+            Verb::Withdraw => "withdraw",
+            Verb::Bar => "bar",
+            Verb::Lift => "lift",
+            Verb::Ask => "ask",
+        })
+    }
+}
+
 // What a script says, entry by entry.
-#[derive(Clone, Copy)]
+#[derive(Drop)]
 pub enum Entry {
-    // a verb and the privileges that its forms name; the two are the same where the verb has one form
-    Call(Verb, u16, u16),
+    Change(Change),
+    // start, the held bytes of which it alone is held, and goal
+    Ask(u16, Vec<u8>, u16),
     // a verb one of whose forms no live privilege prints
     NoForm(Verb),
     // the number of a line that is no verb where one is due
     NoVerb(u32),
 }
 
-fn verb_of(line: &[u8]) -> Option<Verb> {
-    if is_text(line, b"assume") {
-        Some(Verb::Assume)
-    } else if is_text(line, b"withdraw") {
-        Some(Verb::Withdraw)
-    } else if is_text(line, b"bar") {
-        Some(Verb::Bar)
-    } else if is_text(line, b"lift") {
-        Some(Verb::Lift)
-    } else if is_text(line, b"ask") {
-        Some(Verb::Ask)
-    } else {
-        None
+impl Entry {
+    // The call of a trial that the entry asks for.
+    pub fn call<'a>(&'a self) -> Option<Call<'a>> {
+        match self {
+            Entry::Change(change) => Some(Call::Change(*change)),
+            Entry::Ask(_, held, goal) => Some(Call::Ask(held.as_slice(), *goal)),
+            Entry::NoForm(_) | Entry::NoVerb(_) => None,
+        }
     }
 }
 
-// A script that is being read: what is left of it, and how many lines have gone.
+// A script that is being read: what is left of it, and how many lines have gone. The lines are counted here, and not by `enumerate`, since a verb is left for the next
+// entry where a form is due.
 #[derive(Clone, Copy)]
-pub struct Reader<'a> {
+struct Reader<'a> {
     rest: &'a [u8],
     gone: u32,
 }
 
 impl<'a> Reader<'a> {
-    pub fn new(script: &'a [u8]) -> Reader<'a> {
+    fn new(script: &'a [u8]) -> Reader<'a> {
         Reader {
             rest: script,
             gone: 0,
         }
     }
 
+    // The next line.
+    fn line(&mut self) -> Option<&'a [u8]>
+        ensures { MatchOption result (length self.new.rest.now ≤ length self.old.rest.now) (λ _. length self.new.rest.now < length self.old.rest.now) }
+    {
+        let (line, rest) = next_line(self.rest)?;
+        self.rest = rest;
+        self.gone = self.gone.saturating_add(1);
+        Some(line)
+    }
+
     // The next line, but no verb: a form that is missing does not cost the next call.
     fn form(&mut self) -> Option<&'a [u8]>
         ensures { MatchOption result (length self.new.rest.now ≤ length self.old.rest.now) (λ _. length self.new.rest.now < length self.old.rest.now) }
     {
-        let (line, rest) = next_line(self.rest)?;
-        if verb_of(line).is_some() {
+        let mut ahead = *self;
+        let line = ahead.line()?;
+        if Verb::try_from(line).is_ok() {
             return None;
         }
-        self.rest = rest;
-        self.gone = self.gone.saturating_add(1);
+        *self = ahead;
         Some(line)
     }
 
@@ -94,32 +115,42 @@ impl<'a> Reader<'a> {
     fn privilege<S: Named>(&mut self, source: &S) -> Option<u16>
         ensures { length self.new.rest.now ≤ length self.old.rest.now }
     {
-        let line = self.form()?;
-        privilege_of(source, line)
+        privilege_of(source, self.form()?)
+    }
+
+    // Passes over lines up to the next verb.
+    fn pass_over(&mut self)
+        ensures { length self.new.rest.now ≤ length self.old.rest.now }
+    {
+        while self.form().is_some() {}
     }
 }
 
-// The call that begins with the verb.
-fn call_of<S: Named>(source: &S, reader: &mut Reader, verb: Verb) -> Entry
+// The entry that begins with the verb.
+fn entry_of<S: Named>(
+    heap: Global,
+    source: &S,
+    reader: &mut Reader,
+    verb: Verb,
+) -> Result<Entry, AllocError>
     ensures { length reader.new.rest.now ≤ length reader.old.rest.now }
 {
     let first = reader.privilege(source);
-    let second = if verb.has_two() {
-        reader.privilege(source)
-    } else {
-        first
+    let second = match verb {
+        Verb::Bar | Verb::Lift => None,
+        Verb::Assume | Verb::Withdraw | Verb::Ask => reader.privilege(source),
     };
-    match (first, second) {
-        (Some(p), Some(g)) => Entry::Call(verb, p, g),
-        _ => Entry::NoForm(verb),
+    match (verb, first, second) {
+        (Verb::Assume, Some(p), Some(g)) => Ok(Entry::Change(Change::Assume(p, g))),
+        (Verb::Withdraw, Some(p), Some(g)) => Ok(Entry::Change(Change::Withdraw(p, g))),
+        (Verb::Bar, Some(p), None) => Ok(Entry::Change(Change::Bar(p))),
+        (Verb::Lift, Some(p), None) => Ok(Entry::Change(Change::Lift(p))),
+        (Verb::Ask, Some(start), Some(goal)) => {
+            let held = held_alone(heap, source.count() as usize, start)?;
+            Ok(Entry::Ask(start, held, goal))
+        }
+        _ => Ok(Entry::NoForm(verb)),
     }
-}
-
-// Passes over lines up to the next verb.
-fn pass_over(reader: &mut Reader)
-    ensures { length reader.new.rest.now ≤ length reader.old.rest.now }
-{
-    while let Some(_) = reader.form() {}
 }
 
 // All entries of a script.
@@ -130,17 +161,12 @@ pub fn entries_of<S: Named>(
 ) -> Result<Vec<Entry>, AllocError> {
     let mut entries = Vec::new(heap);
     let mut reader = Reader::new(script);
-    while let Some((line, rest)) = next_line(reader.rest) {
-        reader.rest = rest;
-        reader.gone = reader.gone.saturating_add(1);
-        match verb_of(line) {
-            Some(verb) => {
-                let entry = call_of(source, &mut reader, verb);
-                entries.push(entry)?;
-            }
-            None => {
+    while let Some(line) = reader.line() {
+        match Verb::try_from(line) {
+            Ok(verb) => entries.push(entry_of(heap, source, &mut reader, verb)?)?,
+            Err(NoVerb) => {
                 entries.push(Entry::NoVerb(reader.gone))?;
-                pass_over(&mut reader);
+                reader.pass_over();
             }
         }
     }

@@ -2,15 +2,17 @@
 // manual pages and texts at the edges of every limit; `cases` has each as a line with its kind, its name and the length of its text, and then the text.
 #![tactic(auto)]
 
+ghost use Rattle.std.specs.Prelude.{◌<◌, length, IfSome};
+
 mod rows;
 
 use listing::{Files, read_files};
 use print::refusal_line;
-use reading::TextFault;
+use reading::{Kind, SiteFault, TextFault};
 use rows::{print_accounts, print_domain, print_files, print_groups, print_hosts, print_trust};
 use std::{fs, io};
 use tables::{Accounts, Groups, HostNames, read_accounts, read_groups, read_hosts};
-use text::{next_line, next_word, number_of};
+use text::{next_line, number_of, words};
 use trust::{Domain, TrustLines, read_domain, read_equiv, read_rhosts};
 
 // What was read before: the hosts and the accounts that other texts name.
@@ -29,119 +31,108 @@ fn what_was_read(rt: &HostRuntime) -> io::Result<Before> {
     Ok(Before { hosts, accounts })
 }
 
-// Prints the refusal, if the text was refused, and says whether it was taken.
-fn taken(rt: &HostRuntime, read: Result<(), TextFault>) -> io::Result<bool> {
+// Prints what was kept of a text, or its refusal; the host is 0.
+fn told<P: FnOnce() -> io::Result<()>>(
+    rt: &HostRuntime,
+    read: Result<(), TextFault>,
+    print_kept: P,
+) -> io::Result<()>
+    requires { P.IsAlwaysCallable print_kept }
+{
     match read {
-        Ok(()) => Ok(true),
-        Err(fault) => {
-            let line = refusal_line(
-                fault.fault.refusal.number(),
-                fault.fault.line,
-                fault.kind.number(),
-                0,
-            );
-            rt.write_all(line.as_slice())?;
-            Ok(false)
-        }
+        Ok(()) => print_kept(),
+        Err(fault) => rt.write_all(refusal_line(SiteFault::from((0, fault)).into()).as_slice()),
     }
-}
-
-fn hosts(rt: &HostRuntime, text: &[u8]) -> io::Result<()> {
-    let mut hosts = HostNames::new(rt.alloc())?;
-    if taken(rt, read_hosts(&mut hosts, text))? {
-        print_hosts(rt, hosts.as_slice())?;
-    }
-    Ok(())
-}
-
-fn passwd(rt: &HostRuntime, text: &[u8]) -> io::Result<()> {
-    let mut accounts = Accounts::new(rt.alloc())?;
-    if taken(rt, read_accounts(&mut accounts, text))? {
-        print_accounts(rt, accounts.as_slice())?;
-    }
-    Ok(())
-}
-
-fn group(rt: &HostRuntime, accounts: &Accounts, text: &[u8]) -> io::Result<()> {
-    let mut groups = Groups::new(rt.alloc())?;
-    if taken(rt, read_groups(accounts, &mut groups, text))? {
-        print_groups(rt, groups.as_slice())?;
-    }
-    Ok(())
-}
-
-fn mtree(rt: &HostRuntime, text: &[u8]) -> io::Result<()> {
-    let mut files = Files::new(rt.alloc())?;
-    if taken(rt, read_files(&mut files, text))? {
-        print_files(rt, files.as_slice())?;
-    }
-    Ok(())
-}
-
-fn equiv(rt: &HostRuntime, text: &[u8]) -> io::Result<()> {
-    let mut lines = TrustLines::new(rt.alloc())?;
-    if taken(rt, read_equiv(&mut lines, text))? {
-        print_trust(rt, lines.as_slice())?;
-    }
-    Ok(())
-}
-
-fn rhosts(rt: &HostRuntime, text: &[u8]) -> io::Result<()> {
-    let mut lines = TrustLines::new(rt.alloc())?;
-    if taken(rt, read_rhosts(&mut lines, text))? {
-        print_trust(rt, lines.as_slice())?;
-    }
-    Ok(())
-}
-
-fn ypconf(rt: &HostRuntime, hosts: &HostNames, text: &[u8]) -> io::Result<()> {
-    let mut domain: Option<Domain> = None;
-    if taken(rt, read_domain(hosts, &mut domain, text))? {
-        print_domain(rt, domain)?;
-    }
-    Ok(())
 }
 
 // Reads the text of a kind and prints what it says.
-fn read(rt: &HostRuntime, before: &Before, kind: u32, text: &[u8]) -> io::Result<()> {
+fn read(rt: &HostRuntime, before: &Before, kind: Kind, text: &[u8]) -> io::Result<()> {
+    let heap = rt.alloc();
     match kind {
-        0 => hosts(rt, text),
-        1 => passwd(rt, text),
-        2 => group(rt, &before.accounts, text),
-        3 => mtree(rt, text),
-        4 => equiv(rt, text),
-        5 => ypconf(rt, &before.hosts, text),
-        _ => rhosts(rt, text),
+        Kind::Hosts => {
+            let mut hosts = HostNames::new(heap)?;
+            let read = read_hosts(&mut hosts, text);
+            told(rt, read, || print_hosts(rt, hosts.as_slice()))
+        }
+        Kind::Passwd => {
+            let mut accounts = Accounts::new(heap)?;
+            let read = read_accounts(&mut accounts, text);
+            told(rt, read, || print_accounts(rt, accounts.as_slice()))
+        }
+        Kind::Group => {
+            let mut groups = Groups::new(heap)?;
+            let read = read_groups(&before.accounts, &mut groups, text);
+            told(rt, read, || print_groups(rt, groups.as_slice()))
+        }
+        Kind::Mtree => {
+            let mut files = Files::new(heap)?;
+            let read = read_files(&mut files, text);
+            told(rt, read, || print_files(rt, files.as_slice()))
+        }
+        Kind::Equiv => {
+            let mut lines = TrustLines::new(heap)?;
+            let read = read_equiv(&mut lines, text);
+            told(rt, read, || print_trust(rt, lines.as_slice()))
+        }
+        Kind::Ypconf => {
+            let mut domain: Option<Domain> = None;
+            let read = read_domain(&before.hosts, &mut domain, text);
+            told(rt, read, || print_domain(rt, domain))
+        }
+        Kind::Rhosts => {
+            let mut lines = TrustLines::new(heap)?;
+            let read = read_rhosts(&mut lines, text);
+            told(rt, read, || print_trust(rt, lines.as_slice()))
+        }
     }
 }
 
 // The kind, the name and the length that a case begins with.
-fn head_of(line: &[u8]) -> Option<(u32, &[u8], u32)> {
-    let (kind, rest) = next_word(line)?;
-    let (name, rest) = next_word(rest)?;
-    let (length, _) = next_word(rest)?;
-    Some((number_of(kind)?, name, number_of(length)?))
+fn head_of(line: &[u8]) -> Option<(Kind, &[u8], usize)> {
+    let mut words = words(line);
+    let kind = number_of(words.next()?)?;
+    let name = words.next()?;
+    let length = number_of(words.next()?)?;
+    Some((Kind::try_from(kind).ok()?, name, length as usize))
 }
 
-fn cases(rt: &HostRuntime, before: &Before, all: &[u8]) -> io::Result<()> {
-    let mut rest = all;
-    while let Some((head, after)) = next_line(rest) {
-        let Some((kind, name, length)) = head_of(head) else {
-            return Err(io::Error::from(io::ErrorKind::InvalidData));
-        };
-        let length = length as usize;
-        if length >= after.len() {
-            return Err(io::Error::from(io::ErrorKind::InvalidData));
-        }
-        rt.write_all(name)?;
-        rt.write_all(b"\n")?;
-        read(rt, before, kind, &after[..length])?;
-        rest = &after[length + 1..];
-    }
-    Ok(())
+// A case, and what follows it.
+#[derive(Clone, Copy)]
+struct Case<'a> {
+    kind: Kind,
+    name: &'a [u8],
+    text: &'a [u8],
+    rest: &'a [u8],
+}
+
+fn case_of<'a>(all: &'a [u8]) -> Option<Case<'a>>
+    ensures { IfSome result (λ c. length c.rest.now < length all.now) }
+{
+    let (head, after) = next_line(all)?;
+    let (kind, name, length) = head_of(head)?;
+    let (text, ended) = after.split_at_checked(length)?;
+    let (_end, rest) = ended.split_first()?;
+    Some(Case {
+        kind,
+        name,
+        text,
+        rest,
+    })
 }
 
 fn main(rt: HostRuntime) -> io::Result<()> {
     let before = what_was_read(&rt)?;
-    cases(&rt, &before, fs::read(&rt, "cases")?.as_slice())
+    let cases = fs::read(&rt, "cases")?;
+    let mut all = cases.as_slice();
+    while let Some(case) = case_of(all) {
+        rt.write_all(case.name)?;
+        rt.write_all(b"\n")?;
+        read(&rt, &before, case.kind, case.text)?;
+        all = case.rest;
+    }
+    if all.is_empty() {
+        Ok(())
+    } else {
+        Err(io::Error::from(io::ErrorKind::InvalidData))
+    }
 }

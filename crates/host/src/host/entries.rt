@@ -12,7 +12,6 @@ ghost use Rattle.host.specs.Tables.{host_tables};
 
 use super::Host;
 use listing::FileRow;
-use lookups::{account, group, row};
 use tables::{Account, Group};
 use text::Name;
 use trust::{Domain, TrustLine};
@@ -25,13 +24,15 @@ impl Host {
         &self.name
     }
 
+    // The bounds stand in clauses, since a slice or a number that is handed out has no field to keep them in.
+
     // The accounts in the order of their lines.
     pub fn accounts(&self) -> &[Account]
         ensures entries { map account_entry result.now ≡ (host_tables self.now).accounts }
         ensures count { length result.now ≡ length (host_tables self.now).accounts }
         ensures few { length result.now ≤ 16 }
     {
-        self.accounts.as_slice()
+        self.accounts.table.as_slice()
     }
 
     // The groups in the order of their lines.
@@ -40,7 +41,7 @@ impl Host {
         ensures count { length result.now ≡ length (host_tables self.now).groups }
         ensures few { length result.now ≤ 16 }
     {
-        self.groups.as_slice()
+        self.groups.table.as_slice()
     }
 
     // The file rows by their places.
@@ -49,28 +50,28 @@ impl Host {
         ensures count { length result.now ≡ length (host_tables self.now).files }
         ensures few { length result.now ≤ 64 }
     {
-        self.files.as_slice()
+        self.files.table.as_slice()
     }
 
     // The account at a place.
     pub fn account(&self, i: usize) -> Option<&Account>
         ensures { option_map (λ a. account_entry a.now) result ≡ slice_get (host_tables self.now).accounts i }
     {
-        account(self.accounts(), i)
+        self.accounts().get(i)
     }
 
     // The group at a place.
     pub fn group(&self, j: usize) -> Option<&Group>
         ensures { option_map (λ g. group_entry g.now) result ≡ slice_get (host_tables self.now).groups j }
     {
-        group(self.groups(), j)
+        self.groups().get(j)
     }
 
     // The file row at a place.
     pub fn file(&self, place: usize) -> Option<&FileRow>
         ensures { option_map (λ x. file_entry x.now) result ≡ slice_get (host_tables self.now).files place }
     {
-        row(self.files(), place)
+        self.files().get(place)
     }
 
     // How many accounts there are.
@@ -101,31 +102,29 @@ impl Host {
     pub fn equiv(&self) -> &[TrustLine]
         ensures { map trust_entry result.now ≡ (host_tables self.now).equiv }
     {
-        self.equiv.as_slice()
+        self.equiv.table.as_slice()
     }
 
     // The lines of the .rhosts of an account.
     pub fn rhosts(&self, account: usize) -> &[TrustLine]
         ensures { map trust_entry result.now ≡ rhosts_of (host_tables self.now) account }
     {
-        if account < self.rhosts.len() {
-            self.rhosts[account].lines()
-        } else {
-            &[]
-        }
+        self.rhosts
+            .get(account)
+            .map_or(&[], |rhosts| rhosts.table.as_slice())
     }
 
     // Whether the .rhosts of an account has been read.
     pub(crate) fn has_rhosts(&self, account: usize) -> bool
         ensures { result ≡ slice_index_or (host_tables self.now).rhosts_read account false }
     {
-        account < self.rhosts.len() && self.rhosts[account].read
+        self.rhosts.get(account).is_some_and(|rhosts| rhosts.read)
     }
 
     // The domain of yp.conf, if it names one.
     pub fn domain(&self) -> Option<Domain>
         ensures { domain_of result ≡ (host_tables self.now).domain }
     {
-        self.domain
+        self.domain.table
     }
 }

@@ -17,14 +17,11 @@ impl Host {
 
     // Whether some account has a .rhosts in its home that has not been read.
     pub(crate) fn wants_rhosts(&self) -> bool
-        ensures { result ≡ wants_rhosts (host_tables self.now) 0 (host_tables self.now).accounts }
+        ensures { result ≡ wants_rhosts (host_tables self.now) }
     {
-        let accounts = self.accounts.as_slice();
-        for (i, account) in accounts.iter().enumerate() {
-            if self.wants_rhosts_of(i, account) {
-                return true;
-            }
-        }
-        false
+        self.accounts()
+            .iter()
+            .enumerate()
+            .any(|(i, account)| self.wants_rhosts_of(i, account))
     }
 }

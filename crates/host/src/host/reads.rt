@@ -7,9 +7,9 @@ ghost use Rattle.host.specs.Reads.{passwd_answer, passwd_after, group_answer, gr
 use super::Host;
 use crate::turn::in_turn;
 use listing::read_files;
-use reading::{Kind, LineFault, Refusal, TextFault};
+use reading::{Kind, Refusal, TextFault};
 use tables::{HostNames, read_accounts, read_groups};
-use trust::{read_domain, read_equiv};
+use trust::{read_domain, read_equiv, read_rhosts};
 
 impl Host {
     // Reads the accounts.
@@ -17,10 +17,8 @@ impl Host {
         ensures told { result ≡ passwd_answer (host_tables self.old) text.now }
         ensures held { host_tables self.new ≡ passwd_after (host_tables self.old) text.now }
     {
-        in_turn(Kind::Passwd, text, !self.passwd_read)?;
-        read_accounts(&mut self.accounts, text)?;
-        self.passwd_read = true;
-        Ok(())
+        in_turn(Kind::Passwd, text, !self.accounts.read)?;
+        self.accounts.read(|accounts| read_accounts(accounts, text))
     }
 
     // Reads the groups, whose members are looked up among the accounts.
@@ -28,10 +26,10 @@ impl Host {
         ensures told { result ≡ group_answer (host_tables self.old) text.now }
         ensures held { host_tables self.new ≡ group_after (host_tables self.old) text.now }
     {
-        in_turn(Kind::Group, text, self.passwd_read & !self.group_read)?;
-        read_groups(&self.accounts, &mut self.groups, text)?;
-        self.group_read = true;
-        Ok(())
+        in_turn(Kind::Group, text, self.accounts.read && !self.groups.read)?;
+        let accounts = &self.accounts.table;
+        self.groups
+            .read(|groups| read_groups(accounts, groups, text))
     }
 
     // Reads the listing of the files.
@@ -39,10 +37,8 @@ impl Host {
         ensures told { result ≡ mtree_answer (host_tables self.old) text.now }
         ensures held { host_tables self.new ≡ mtree_after (host_tables self.old) text.now }
     {
-        in_turn(Kind::Mtree, text, !self.mtree_read)?;
-        read_files(&mut self.files, text)?;
-        self.mtree_read = true;
-        Ok(())
+        in_turn(Kind::Mtree, text, !self.files.read)?;
+        self.files.read(|files| read_files(files, text))
     }
 
     // Reads the lines of hosts.equiv.
@@ -50,10 +46,8 @@ impl Host {
         ensures told { result ≡ equiv_answer (host_tables self.old) text.now }
         ensures held { host_tables self.new ≡ equiv_after (host_tables self.old) text.now }
     {
-        in_turn(Kind::Equiv, text, !self.equiv_read)?;
-        read_equiv(&mut self.equiv, text)?;
-        self.equiv_read = true;
-        Ok(())
+        in_turn(Kind::Equiv, text, !self.equiv.read)?;
+        self.equiv.read(|lines| read_equiv(lines, text))
     }
 
     // Reads the domain of yp.conf, whose server is looked up among the names of the hosts.
@@ -61,10 +55,8 @@ impl Host {
         ensures told { result ≡ ypconf_answer (hosts_of names.now) (host_tables self.old) text.now }
         ensures held { host_tables self.new ≡ ypconf_after (hosts_of names.now) (host_tables self.old) text.now }
     {
-        in_turn(Kind::Ypconf, text, !self.ypconf_read)?;
-        read_domain(names, &mut self.domain, text)?;
-        self.ypconf_read = true;
-        Ok(())
+        in_turn(Kind::Ypconf, text, !self.domain.read)?;
+        self.domain.read(|domain| read_domain(names, domain, text))
     }
 
     // Reads the .rhosts of an account.
@@ -75,17 +67,11 @@ impl Host {
         in_turn(
             Kind::Rhosts,
             text,
-            self.passwd_read & !self.has_rhosts(account),
+            self.accounts.read && !self.has_rhosts(account),
         )?;
         if account >= self.account_count() {
-            return Err(TextFault {
-                kind: Kind::Rhosts,
-                fault: LineFault {
-                    refusal: Refusal::Unknown,
-                    line: 0,
-                },
-            });
+            return Err(TextFault::of_text(Kind::Rhosts, Refusal::Unknown));
         }
-        self.rhosts[account].read(text)
+        self.rhosts[account].read(|lines| read_rhosts(lines, text))
     }
 }

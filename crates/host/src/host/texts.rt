@@ -1,27 +1,47 @@
 // A host is made and cleared, and says which of its texts are wanted.
-ghost use Rattle.std.specs.Prelude.{◌≡◌, ℕ, List, IfOk};
+ghost use Rattle.std.specs.Prelude.{◌≡◌, ℕ, List, [], map, replicate, false, IfOk};
 ghost use Rattle.text.specs.Kept.{name_bytes};
-ghost use Rattle.host.specs.Tables.{host_tables, unread_tables};
+ghost use Rattle.host.specs.Tables.{lines_of, host_tables, unread_tables};
 ghost use Rattle.host.specs.Wanted.{first_unread};
 
 use super::Host;
-use crate::rhosts::{clear_rhosts, unread_rhosts};
+use crate::text_table::TextTable;
 use listing::Files;
 use reading::{Kind, Table};
 use std::alloc::{AllocError, Global};
+use std::array;
 use tables::{Accounts, Groups};
 use text::Name;
 use trust::TrustLines;
+
+// The .rhosts of 16 accounts, unread.
+fn unread_rhosts(heap: Global) -> Result<[TextTable<TrustLines<4>>; 16], AllocError>
+    ensures lines { IfOk result (λ list. map lines_of list ≡ replicate 16 []) }
+    ensures read { IfOk result (λ list. map (λ x. x.read) list ≡ replicate 16 false) }
+{
+    array::try_from_fn(|_| Ok(TextTable::unread(TrustLines::new(heap)?)))
+}
+
+// Makes each of them unread.
+fn clear_rhosts(list: &mut [TextTable<TrustLines<4>>; 16])
+    ensures lines { map lines_of list.new ≡ replicate 16 [] }
+    ensures read { map (λ x. x.read) list.new ≡ replicate 16 false }
+{
+    for rhosts in list.iter_mut() {
+        rhosts.clear(TrustLines::clear);
+    }
+}
 
 impl Host {
     // A host with room for all its tables, none of whose texts has been read.
     pub fn new(heap: Global, name: Name) -> Result<Host, AllocError>
         ensures { IfOk result (λ h. host_tables h ≡ unread_tables (name_bytes name)) }
     {
-        let accounts = Accounts::new(heap)?;
-        let groups = Groups::new(heap)?;
-        let files = Files::new(heap)?;
-        let equiv = TrustLines::new(heap)?;
+        let accounts = TextTable::unread(Accounts::new(heap)?);
+        let groups = TextTable::unread(Groups::new(heap)?);
+        let files = TextTable::unread(Files::new(heap)?);
+        let equiv = TextTable::unread(TrustLines::new(heap)?);
+        let domain = TextTable::unread(None);
         let rhosts = unread_rhosts(heap)?;
         Ok(Host {
             name,
@@ -29,13 +49,8 @@ impl Host {
             groups,
             files,
             equiv,
-            domain: None,
+            domain,
             rhosts,
-            passwd_read: false,
-            group_read: false,
-            mtree_read: false,
-            equiv_read: false,
-            ypconf_read: false,
         })
     }
 
@@ -43,17 +58,12 @@ impl Host {
     pub fn clear(&mut self)
         ensures { host_tables self.new ≡ unread_tables (host_tables self.old).name }
     {
-        self.accounts.clear();
-        self.groups.clear();
-        self.files.clear();
-        self.equiv.clear();
-        self.domain = None;
+        self.accounts.clear(Accounts::clear);
+        self.groups.clear(Groups::clear);
+        self.files.clear(Files::clear);
+        self.equiv.clear(TrustLines::clear);
+        self.domain.clear(|domain| *domain = None);
         clear_rhosts(&mut self.rhosts);
-        self.passwd_read = false;
-        self.group_read = false;
-        self.mtree_read = false;
-        self.equiv_read = false;
-        self.ypconf_read = false;
     }
 
     // Takes a name, and is as on the first day.
@@ -68,24 +78,17 @@ impl Host {
     pub fn first_unread(&self) -> Option<Kind>
         ensures { result ≡ first_unread (host_tables self.now) }
     {
-        if !self.passwd_read {
-            return Some(Kind::Passwd);
-        }
-        if !self.group_read {
-            return Some(Kind::Group);
-        }
-        if !self.mtree_read {
-            return Some(Kind::Mtree);
-        }
-        if !self.equiv_read {
-            return Some(Kind::Equiv);
-        }
-        if !self.ypconf_read {
-            return Some(Kind::Ypconf);
-        }
-        if self.wants_rhosts() {
-            return Some(Kind::Rhosts);
-        }
-        None
+        let texts = [
+            (Kind::Passwd, !self.accounts.read),
+            (Kind::Group, !self.groups.read),
+            (Kind::Mtree, !self.files.read),
+            (Kind::Equiv, !self.equiv.read),
+            (Kind::Ypconf, !self.domain.read),
+            (Kind::Rhosts, self.wants_rhosts()),
+        ];
+        texts
+            .iter()
+            .find(|(_, wanted)| *wanted)
+            .map(|(kind, _)| *kind)
     }
 }

@@ -1,4 +1,4 @@
-// A table of file rows is made and cleared, and shows its rows.
+// A table of file rows is made, and shows its rows.
 ghost use Rattle.std.specs.Prelude.{◌≡◌, map, IfOk};
 ghost use Rattle.listing.specs.Rows.{file_entry, absent_rows};
 ghost use Rattle.listing.specs.Files.{files_of};
@@ -6,6 +6,7 @@ ghost use Rattle.listing.specs.Files.{files_of};
 use super::Files;
 use super::fixed::reset;
 use crate::row::FileRow;
+use bounded::BoundedVec;
 use std::alloc::{AllocError, Global};
 
 impl Files {
@@ -13,7 +14,7 @@ impl Files {
     pub fn new(heap: Global) -> Result<Files, AllocError>
         ensures { IfOk result (λ t. files_of t ≡ absent_rows) }
     {
-        let mut rows = Vec::with_capacity(heap, 64)?;
+        let mut rows = BoundedVec::new(heap)?;
         reset(&mut rows);
         Ok(Files { rows })
     }
@@ -23,12 +24,5 @@ impl Files {
         ensures { map file_entry result.now ≡ files_of self.now }
     {
         self.rows.as_slice()
-    }
-
-    // Makes the table as on the first day.
-    pub fn clear(&mut self)
-        ensures { files_of self.new ≡ absent_rows }
-    {
-        reset(&mut self.rows);
     }
 }

@@ -1,10 +1,10 @@
 // A closed site shows its hosts, and is opened again.
 ghost use Rattle.std.specs.Prelude.{◌≡◌, ◌≤◌, map, length};
 ghost use Rattle.host.specs.Tables.{host_tables};
-ghost use Rattle.site.specs.Models.{open_model, closed_model};
+ghost use Rattle.site.specs.Models.{open_model};
+ghost use Rattle.site.specs.Closed.{closed_model};
 
 use super::ClosedSite;
-use crate::first::first_hosts;
 use crate::open::OpenSite;
 use host::Host;
 
@@ -14,18 +14,14 @@ impl ClosedSite {
         ensures entries { map host_tables result.now ≡ (closed_model self.now).hosts }
         ensures few { length result.now ≤ 8 }
     {
-        first_hosts(self.hosts.as_slice(), self.count)
+        self.site.hosts()
     }
 
     // Opens the site again.
     pub fn reopen(self) -> OpenSite
         ensures { open_model result ≡ closed_model self }
     {
-        OpenSite {
-            hosts: self.hosts,
-            count: self.count,
-            names: self.names,
-            hosts_read: self.hosts_read,
-        }
+        let ClosedSite { site } = self;
+        site
     }
 }

@@ -2,7 +2,7 @@
 ghost use Rattle.std.specs.Prelude.{◌≡◌, ◌<◌, ◌≤◌};
 ghost use Rattle.allows.specs.Lawful.{site-lawful};
 ghost use Rattle.allows.specs.Source.{site_rules};
-ghost use Rattle.site.specs.Models.{closed_model};
+ghost use Rattle.site.specs.Closed.{closed_model};
 
 use super::ClosedSite;
 use grants::{is_live, live_slot};

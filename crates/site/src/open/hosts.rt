@@ -8,35 +8,29 @@ ghost use Rattle.host.specs.Reads.{answered};
 ghost use Rattle.site.specs.Models.{open_model, unread_site, hosts_turn, hosts_answer, hosts_after};
 
 use super::OpenSite;
-use crate::first::first_hosts;
-use host::{Host, in_turn};
+use host::{Host, TextTable, in_turn};
 use reading::{Kind, SiteFault, TextFault, at};
 use std::alloc::{AllocError, Global};
+use std::array;
 use tables::{HostNames, read_hosts};
 use text::Name;
 
 // Room for 8 hosts; what they are called does not matter before they are named.
-fn spare_hosts(heap: Global) -> Result<Vec<Host>, AllocError>
-    ensures { IfOk result (λ v. vec_len v ≡ 8) }
-{
+fn spare_hosts(heap: Global) -> Result<[Host; 8], AllocError> {
     let Some(name) = Name::new(b"spare") else {
         unreachable()
     };
-    let mut hosts = Vec::with_capacity(heap, 8)?;
-    'hosts: while hosts.len() < 8 {
-        hosts.push_reserved(Host::new(heap, name)?);
-    }
-    Ok(hosts)
+    array::try_from_fn(|_| Host::new(heap, name))
 }
 
 // Gives the first hosts these names; they are then as on the first day.
-fn begin_hosts(hosts: &mut Vec<Host>, names: &[Name])
-    requires { length names.now ≤ vec_len hosts.old }
-    ensures len { vec_len hosts.new ≡ vec_len hosts.old }
-    ensures begun { take (length names.now) (map host_tables hosts.new.items) ≡ map unread_tables (map name_bytes names.now) }
+fn begin_hosts(hosts: &mut [Host; 8], names: &[Name])
+    requires { length names.now ≤ 8 }
+    ensures { take (length names.now) (map host_tables hosts.new) ≡ map unread_tables (map name_bytes names.now) }
 {
-    for i in 0..names.len() {
-        hosts[i].begin(names[i]);
+    // By places: of a list that is gone over by iter_mut().zip(..), a proof knows only how long it is.
+    for (i, name) in names.iter().enumerate() {
+        hosts[i].begin(*name);
     }
 }
 
@@ -45,14 +39,9 @@ impl OpenSite {
     pub fn new(heap: Global) -> Result<OpenSite, AllocError>
         ensures { IfOk result (λ s. open_model s ≡ unread_site) }
     {
-        let names = HostNames::new(heap)?;
+        let names = TextTable::unread(HostNames::new(heap)?);
         let hosts = spare_hosts(heap)?;
-        Ok(OpenSite {
-            hosts,
-            count: 0,
-            names,
-            hosts_read: false,
-        })
+        Ok(OpenSite { names, hosts })
     }
 
     // The hosts, by the numbers that the hosts text gives them.
@@ -60,20 +49,18 @@ impl OpenSite {
         ensures entries { map host_tables result.now ≡ (open_model self.now).hosts }
         ensures few { length result.now ≤ 8 }
     {
-        first_hosts(self.hosts.as_slice(), self.count)
+        let count = self.names.table.as_slice().len();
+        &self.hosts[..count]
     }
 
     fn name_hosts(&mut self, text: &[u8]) -> Result<(), TextFault>
         ensures told { result ≡ answered HostsKind text.now (hosts_turn (open_model self.old)) (hosts_in text.now) }
         ensures held { open_model self.new ≡ hosts_after (open_model self.old) text.now }
     {
-        in_turn(Kind::Hosts, text, !self.hosts_read)?;
-        let read = read_hosts(&mut self.names, text);
-        let names = self.names.as_slice();
-        begin_hosts(&mut self.hosts, names);
-        self.count = names.len();
-        self.hosts_read = read.is_ok();
-        read
+        in_turn(Kind::Hosts, text, !self.names.read)?;
+        self.names.read(|names| read_hosts(names, text))?;
+        begin_hosts(&mut self.hosts, self.names.table.as_slice());
+        Ok(())
     }
 
     // Reads the hosts text, which names the hosts.

@@ -3,88 +3,38 @@ ghost use Rattle.std.specs.Prelude.{◌≡◌, ℕ, ◌<◌, true, List, [], map
 ghost use Rattle.std.specs.Option.{option_map};
 ghost use Rattle.text.specs.Kept.{name_bytes};
 ghost use Rattle.region.specs.Sound.{OwnName};
-ghost use Rattle.reading.specs.Reads.{ok_mapped, value_or};
+ghost use Rattle.reading.specs.Reads.{entry_lines, ok_mapped, text_told, value_or};
 ghost use Rattle.reading.specs.declared.fault.Kind.TheVariants.{Hosts};
-ghost use Rattle.tables.specs.Steps.{entry_lines, text_told};
 ghost use Rattle.tables.specs.Rows.{HostNamesSound};
 ghost use Rattle.tables.specs.HostsText.{hosts_of, host_word, host_in, host_place, host_step, hosts_in};
 
 use super::HostNames;
 use crate::names::is_reserved;
-use reading::{Kind, LineFault, Refusal, Table, TextFault, at, is_passed_over, read_text};
-use std::alloc::{AllocError, Global};
-use text::{Mark, Name, cut, next_word};
+use reading::{Kind, Refusal, Table, TextFault, is_passed_over, read_text};
+use text::{Mark, Name, cut, words};
 
 // The second word of a line, without its comment.
 fn host_word<'a>(line: &'a [u8]) -> Option<&'a [u8]>
     ensures { option_map (λ x. x.now) result ≡ host_word line.now }
 {
     let (entry, _comment) = cut(line, Mark::Hash);
-    let (_address, after) = next_word(entry)?;
-    let (name, _aliases) = next_word(after)?;
-    Some(name)
+    words(entry).nth(1)
 }
 
-fn host_of(n: u32, line: &[u8]) -> Result<Name, LineFault>
-    ensures value { ok_mapped name_bytes result ≡ host_in n line.now }
+fn host_of(line: &[u8]) -> Result<Name, Refusal>
+    ensures value { ok_mapped name_bytes result ≡ host_in line.now }
     ensures formed { IfOk result (λ h. OwnName (name_bytes h)) }
 {
-    let Some(word) = host_word(line) else {
-        return Err(LineFault {
-            refusal: Refusal::Fields,
-            line: n,
-        });
-    };
+    let word = host_word(line).ok_or(Refusal::Fields)?;
     if is_reserved(word) {
-        return Err(LineFault {
-            refusal: Refusal::NotCovered,
-            line: n,
-        });
+        return Err(Refusal::NotCovered);
     }
-    let Some(name) = Name::new(word) else {
-        return Err(LineFault {
-            refusal: Refusal::BadName,
-            line: n,
-        });
-    };
+    let name = Name::new(word).ok_or(Refusal::BadName)?;
     Ok(name)
 }
 
-impl HostNames {
-    // An empty table with room for 8 hosts.
-    pub fn new(heap: Global) -> Result<HostNames, AllocError>
-        ensures { IfOk result (λ t. hosts_of t ≡ []) }
-    {
-        let rows = Vec::with_capacity(heap, 8)?;
-        Ok(HostNames { rows })
-    }
-
-    // The names in the order of their lines.
-    pub fn as_slice(&self) -> &[Name]
-        ensures { map name_bytes result.now ≡ hosts_of self.now }
-    {
-        self.rows.as_slice()
-    }
-
-    // The place of the host of that name.
-    pub fn place_of(&self, name: &[u8]) -> Option<usize>
-        ensures place { result ≡ host_place name.now (hosts_of self.now) }
-        ensures within { IfSome result (λ i. i < 8) }
-    {
-        let rows = self.rows.as_slice();
-        for (i, row) in rows.iter().enumerate() {
-            if row.is(name) {
-                return Some(i);
-            }
-        }
-        None
-    }
-}
-
 impl Table for HostNames {
-    ghost Kept = { Unit {0} };
-
-    ghost kept = { λ _. tt };
+    type Beside = ();
 
     ghost Seen = { List (List ℕ) };
 
@@ -92,30 +42,21 @@ impl Table for HostNames {
 
     ghost first = { [] };
 
-    ghost step = { λ _ n rows l. host_step n rows l };
+    ghost step = { λ _ rows l. host_step rows l };
 
     fn clear(&mut self) {
         self.rows.clear();
     }
 
-    fn line(&mut self, n: u32, line: &[u8]) -> Result<(), LineFault> {
+    fn line(&mut self, _beside: &(), line: &[u8]) -> Result<(), Refusal> {
         if is_passed_over(line) {
             return Ok(());
         }
-        let host = host_of(n, line)?;
+        let host = host_of(line)?;
         if self.place_of(host.as_slice()).is_some() {
-            return Err(LineFault {
-                refusal: Refusal::Given,
-                line: n,
-            });
+            return Err(Refusal::Given);
         }
-        if self.rows.len() >= 8 {
-            return Err(LineFault {
-                refusal: Refusal::Full,
-                line: n,
-            });
-        }
-        self.rows.push_reserved(host);
+        self.rows.push(host)?;
         Ok(())
     }
 }
@@ -127,6 +68,5 @@ pub fn read_hosts(hosts: &mut HostNames, text: &[u8]) -> Result<(), TextFault>
     ensures sound { HostNamesSound (hosts_of hosts.new) }
     ensures counted { is_ok result ≡ true → length (hosts_of hosts.new) ≡ length (entry_lines text.now) }
 {
-    at(Kind::Hosts, read_text(hosts, text))?;
-    Ok(())
+    read_text(Kind::Hosts, hosts, &(), text)
 }

@@ -1,14 +1,8 @@
-use Rattle.std.proofs.Common.{eqb, rules}
-use Rattle.region.specs.Tables.{AccountEntry}
-use Rattle.tables.specs.Rows.{account_entry}
-use Rattle.lookups.proofs.Scans.{place_here, place-later, place-nowhere}
+use Rattle.std.proofs.Common.{rules, tests}
+use Rattle.std.proofs.lemmas.Iterator.{YieldsList-from_slice}
+use Rattle.std.proofs.lemmas.Iterator.Search.{position_from_yields_List}
+use Rattle.lookups.proofs.Maps.{position-map}
 use Rattle.lookups.proofs.accounts.numbered.Goals as goal
 
-pub returns-then-has_number : goal.returns-then-has_number
-returns-then-has_number c = let here = place_here account_entry (λ (x : AccountEntry). eqb x.number c.args.n) in search (rules, here)
-
-pub loop-i-preserved : goal.loop-i-preserved
-loop-i-preserved c = let later = place-later account_entry (λ (x : AccountEntry). eqb x.number c.args.n) in search (rules, later)
-
-pub returns : goal.returns
-returns c = let nowhere = place-nowhere account_entry (λ (x : AccountEntry). eqb x.number c.args.n) in search (rules, nowhere)
+pub returns-clause-place : goal.returns-clause-place
+returns-clause-place c = rw position-map (position_from_yields_List _ _ _ _ c.position.ensures.ran (YieldsList-from_slice c.args.rows.now cc) (λ x b q k. search (rules, tests)))

@@ -1,7 +1,7 @@
 use Rattle.std.proofs.Common.{◌≡◌, map, drop}
 use Rattle.host.specs.Tables.{host_tables}
-use Rattle.site.specs.Checks.{checked_from}
+use Rattle.site.specs.Checks.{checked, checked_from}
 use Rattle.site.proofs.close.check_hosts.Given as goal
 
 abbrev pub invariant-loop-i : goal.invariant-loop-i
-invariant-loop-i l = checked_from l.i (map host_tables (drop l.i l.hosts)) ≡ checked_from 0 (map host_tables l.hosts)
+invariant-loop-i l = checked_from l.i (map host_tables (drop l.i l.hosts)) ≡ checked (map host_tables l.hosts)

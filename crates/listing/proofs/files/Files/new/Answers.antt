@@ -1,11 +1,7 @@
-use Rattle.std.proofs.Common.{◌≤◌, map, vec_items, vec_len, sym, subst}
-use Rattle.listing.specs.Rows.{file_entry}
-use Rattle.listing.proofs.Tables.{Kept, absent_kept, absent-few}
+use Rattle.listing.proofs.Tables.{first_kept}
 use Rattle.listing.proofs.files.Files.new.Goals as goal
 
 pub invariant_of-result : goal.invariant_of-result
 invariant_of-result c =
-    let v = c.reset.new.rows in
-    let kept : Kept (map file_entry (vec_items v)) = subst Kept (sym c.reset.ensures.rows) absent_kept in
-    let few : vec_len v ≤ 64 = absent-few v c.reset.ensures.rows in
-    record { few = few; room = c.reset.ensures.room; fixed = kept.fixed; once = kept.once; parents = kept.parents; under = kept.under }
+    let kept = first_kept c.reset.new.rows c.reset.ensures in
+    record { few = kept.few; fixed = kept.fixed; once = kept.once; parents = kept.parents; under = kept.under }

@@ -1,6 +1,6 @@
-use Rattle.std.proofs.Common.{◌≡◌, ◌≤◌, map, take, vec_items, vec_len, vec_capacity}
-use Rattle.listing.specs.Rows.{file_entry, absent, fixed_rows}
+use Rattle.std.proofs.Common.{◌≡◌, map, length, take}
+use Rattle.listing.specs.Rows.{file_entry, absent}
 use Rattle.listing.proofs.files.fixed.reset.Given as goal
 
-abbrev pub invariant-loop-row : goal.invariant-loop-row
-invariant-loop-row l = (map file_entry (vec_items l.rows) ≡ map absent (take l.row fixed_rows)) × (vec_len l.rows ≡ l.row) × (64 ≤ vec_capacity l.rows)
+abbrev pub invariant-loop-path : goal.invariant-loop-path
+invariant-loop-path l = (map file_entry l.rows ≡ map (λ f. absent (f.0.now, f.1)) (take l.path-index l.path-items)) × (length l.rows ≡ l.path-index)

@@ -1,10 +1,8 @@
-use Rattle.std.proofs.Common.{arith}
-use Rattle.writing.proofs.Chained.{then}
-use Rattle.matrix.specs.Printing.{few_bytes, shown}
+use Rattle.std.proofs.Common.{rules}
+use Rattle.bounded.proofs.Clips.{clip, told}
+use Rattle.print.proofs.Short.{fresh}
+use Rattle.matrix.specs.Printing.{operations_named}
 use Rattle.matrix.proofs.forms.MatrixNamed.print.Goals as goal
 
-pub write_number-requires : goal.write_number-requires
-write_number-requires c = omega (arith, c.write_text-at.ensures.end, few_bytes c.args.p (omega (arith, c.args.self.now.few)))
-
-pub returns-clause-bytes : goal.returns-clause-bytes
-returns-clause-bytes c = (shown c.args.self.now c.args.p _ _ _ (omega arith) (then c.write_text-at.ensures c.write_number.ensures)).bytes
+pub returns : goal.returns
+returns c = fresh (told (clip c.add.ensures c.put_number.ensures) (search rules)) c.new-form.ensures ((operations_named c.args.self.now).at_most_128_bytes c.args.p)

@@ -1,15 +1,9 @@
-use Rattle.std.proofs.Common.{rules}
-use Rattle.std.proofs.lemmas.Bool.Decides.{nat_tests}
+use Rattle.std.proofs.Common.{rules, tests}
+use Rattle.std.proofs.lemmas.Iterator.Search.{any_from_yields_List}
 use Rattle.tables.specs.Rows.{group_entry}
 use Rattle.tables.specs.GroupText.{group_given}
-use Rattle.tables.proofs.Scans.{place_here, place-later, place-nowhere}
+use Rattle.tables.proofs.Views.{seen}
 use Rattle.tables.proofs.groups.read.is_given.Goals as goal
 
-pub returns-then-row-number : goal.returns-then-row-number
-returns-then-row-number c = let here = place_here group_entry (group_given c.args.name.now c.args.number) in search (rules, nat_tests, here)
-
-pub loop-row-preserved : goal.loop-row-preserved
-loop-row-preserved c = let later = place-later group_entry (group_given c.args.name.now c.args.number) in search (rules, nat_tests, later)
-
 pub returns : goal.returns
-returns c = let nowhere = place-nowhere group_entry (group_given c.args.name.now c.args.number) in search (rules, nowhere)
+returns c = any_from_yields_List (group_given c.args.name.now c.args.number) _ _ _ c.any.ensures.ran (seen group_entry _ (search rules)) (λ x b q k. search (rules, tests))

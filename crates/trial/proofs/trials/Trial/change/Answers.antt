@@ -1,10 +1,15 @@
-use Rattle.trial.specs.Trials.{lists_of, source_of}
+use Rattle.std.proofs.Common.{rules}
 use Rattle.trial.proofs.Standing.{carried}
 use Rattle.trial.proofs.trials.Trial.change.Goals as goal
 
-pub returns : goal.returns
-returns g c = record {
-  agrees = carried (g.S.RuleSource.meaning (source_of c.args.self.now)) (lists_of c.args.self.now) (lists_of c.enter.new.self) c.args.change c.enter.result c.enter.ensures.answer c.enter.ensures.after;
-  lists = c.enter.ensures.after;
-  same = c.enter.ensures.same;
-}
+pub returns-in-Assume-clause-agrees : goal.returns-in-Assume-clause-agrees
+returns-in-Assume-clause-agrees g c = carried _ _ _ _ _ (search rules) (search rules)
+
+pub returns-in-Withdraw-clause-agrees : goal.returns-in-Withdraw-clause-agrees
+returns-in-Withdraw-clause-agrees g c = carried _ _ _ _ _ (search rules) (search rules)
+
+pub returns-in-Bar-clause-agrees : goal.returns-in-Bar-clause-agrees
+returns-in-Bar-clause-agrees g c = carried _ _ _ _ _ (search rules) (search rules)
+
+pub returns-in-Lift-clause-agrees : goal.returns-in-Lift-clause-agrees
+returns-in-Lift-clause-agrees g c = carried _ _ _ _ _ (search rules) (search rules)

@@ -1,9 +1,0 @@
-use Rattle.std.proofs.Common.{rules}
-use Rattle.tables.proofs.Forms.{own_name, number_small}
-use Rattle.tables.proofs.groups.read.head_of.Goals as goal
-
-pub returns : goal.returns
-returns c = record {
-  value = search rules;
-  formed = record { named = search (rules, own_name); numbered = search (rules, number_small) };
-}
