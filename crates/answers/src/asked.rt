@@ -1,5 +1,5 @@
 // One question, answered in printed lines.
-use crate::lines::{held_alone, start_and_goal};
+use crate::lines::{held_at, start_and_goal};
 use print::{Refused, no_chain_line, plan_line, refusal_line};
 use rules::measure::Measure;
 use rules::named::Named;
@@ -7,7 +7,7 @@ use search::answer::Refusal;
 use std::io;
 use std::process::ExitCode;
 use trial::calls::{Call, Plan, Reply};
-use trial::prepared::Prepared;
+use trial::prepared_calls::PreparedCalls;
 
 // Whether there was an answer, a plan or that there is no chain, or a refusal, which is no answer.
 #[derive(Clone, Copy, Debug, PartialEq, Eq)]
@@ -79,9 +79,9 @@ pub fn answer<S: Named + Drop, W: Measure>(
     let Some((start, goal)) = start_and_goal(&source, question) else {
         return refuse(rt, Refusal::NotLive.into());
     };
-    let held = held_alone(heap, source.count() as usize, start)?;
+    let held = held_at(heap, &source, start)?;
     let calls = [Call::Ask(held.as_slice(), goal)];
-    let prepared: Prepared<S, W> = Prepared::new(heap, source, &calls)?;
+    let prepared: PreparedCalls<S, W> = PreparedCalls::new(heap, source, &calls)?;
     let done = prepared.run();
     match done.replies.first() {
         Some(reply) => print_reply(rt, &done.trial, reply),

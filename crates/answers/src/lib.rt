@@ -5,4 +5,4 @@ mod asked;
 mod lines;
 
 pub use asked::{Outcome, answer, print_reply, refuse};
-pub use lines::{held_alone, start_and_goal};
+pub use lines::{held_alone, held_at, start_and_goal};

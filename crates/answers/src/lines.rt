@@ -1,9 +1,10 @@
 // A question as its two lines say it.
-ghost use Rattle.std.specs.Prelude.{◌≡◌, replicate, IfOk, slice_set};
+ghost use Rattle.std.specs.Prelude.{◌≡◌, true, replicate, IfOk, slice_set};
 ghost use Rattle.answers.specs.Questions.{NamedByLines};
 
 use print::privilege_of;
 use rules::named::Named;
+use rules::source::RuleSource;
 use std::alloc::{AllocError, Global};
 use text::lines;
 
@@ -28,4 +29,12 @@ pub fn held_alone(heap: Global, n: usize, p: u16) -> Result<Vec<u8>, AllocError>
         *byte = 1;
     }
     Ok(held)
+}
+
+// The held bytes of a question over the source: its start alone, which is live, so that something is held.
+pub fn held_at<S: RuleSource>(heap: Global, source: &S, start: u16) -> Result<Vec<u8>, AllocError>
+    requires { (S.meaning source.now).live start ≡ true }
+    ensures { IfOk result (λ v. v.items ≡ slice_set (replicate (S.meaning source.now).count 0) start 1) }
+{
+    held_alone(heap, source.count() as usize, start)
 }

@@ -26,5 +26,5 @@ pub fn right_printed(t: &Host, right: Right) -> ArrayVec<u8, 128>
         Right::Write(r) => t.file(r.into()).map(|x| write_form(&x.path, host)),
         Right::Replace(r) => t.file(r.into()).map(|x| replace_form(&x.path, host)),
     };
-    form.unwrap_or(ArrayVec::new(0))
+    form.unwrap_or_else(|| ArrayVec::new(0))
 }

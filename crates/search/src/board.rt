@@ -49,9 +49,13 @@ impl<W: Measure> Board<'_, '_, W> {
         ensures { Selected W.zero W.at_most self.now.marks.now self.now.labels.now (length self.now.marks.now) result }
     {
         let mut best: Option<(u16, W)> = None;
-        for (p, (mark, label)) in self.marks.iter().zip(self.labels.iter()).enumerate() {
-            if *mark == LABELLED && best.is_none_or(|(_, least)| !least.at_most(&label.weight)) {
-                best = Some((p as u16, label.weight));
+        for (p, mark) in self.marks.iter().enumerate() {
+            if *mark == LABELLED {
+                let p = p as u16;
+                let weight = self.labels[p as usize].weight;
+                if best.is_none_or(|(_, least)| !least.at_most(&weight)) {
+                    best = Some((p, weight));
+                }
             }
         }
         best.map(|(p, _)| p)

@@ -1,4 +1,5 @@
 pub mod Ledger
+pub mod PreparedCalls
 pub mod Preparing
 pub mod Runs
 pub mod Sets

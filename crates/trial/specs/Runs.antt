@@ -1,5 +1,5 @@
 -- Whole runs: a list of calls, what each is replied, and the ledger that is fed the same calls.
-use Rattle.std.specs.Prelude.{◌≡◌, ℕ, ◌<◌, ◌≤◌, Bool, List, [], ◌∷◌, length, take, Ok, Err, vec_items, Result}
+use Rattle.std.specs.Prelude.{◌≡◌, ℕ, ◌<◌, ◌≤◌, Bool, List, [], ◌∷◌, length, take, Ok, Err, vec_items, vec_len, Result}
 use Rattle.rules.specs.Rules.{Rules}
 use Rattle.rules.specs.declared.source.RuleSource.{Ghosts}
 use Rattle.search.specs.Questions.{HeldIn, Bits, BadByte, AllAlive, SomeDead, Chainless, LeastPlan, Exactly}
@@ -15,13 +15,14 @@ use Rattle.trial.specs.declared.calls.Reply.TheVariants.{Changed, Asked}
 use Rattle.trial.specs.declared.calls.Plan.{Plan}
 use Rattle.trial.specs.declared.prepared.Prepared.{Prepared}
 
--- the source that a run is over, and its calls
 module _ {S W : Type 0} {G : Ghosts S} where
+  -- the source that a run is over
   abbrev pub source_under : Prepared S W G → S
   source_under d = source_of d.desk.trial
 
-  abbrev pub calls_of : Prepared S W G → List Call
-  calls_of d = d.calls.now
+  -- there is memory for so many calls; that the trial is bare, and that the memory of each plan suffices, is in the type
+  abbrev pub Ready : ℕ → Prepared S W G → Type 0
+  Ready many d = many ≤ vec_len d.plans
 
 -- the plan that is replied is a least plan by the ledger, with its rules beside it
 pub record Told {W : Type 0} (z : W) (add : W → Bool → W) (at_most : W → W → Bool) (R : Rules) (l : Ledger) (held : ℕ → Type 0) (t : ℕ) (a : Plan W) : Type 0 where

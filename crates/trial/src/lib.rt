@@ -3,5 +3,6 @@
 
 pub mod calls;
 pub mod prepared;
+pub mod prepared_calls;
 pub mod runs;
 pub mod trials;

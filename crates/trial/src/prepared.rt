@@ -11,17 +11,15 @@ use rules::measure::Measure;
 use rules::source::RuleSource;
 use std::alloc::{AllocError, Global};
 
-// A list of calls, and a bare trial with all the memory that a run of them needs: room for a plan and a reply for each.
+// A bare trial with all the memory that a run of so many calls needs: room for a plan and a reply for each.
 #[derive(Drop)]
-pub struct Prepared<'a, S: RuleSource, W> {
-    calls: &'a [Call<'a>],
+pub struct Prepared<S: RuleSource, W> {
     desk: Desk<S, W>,
     plans: Vec<PlanMemory>,
     replies: Vec<Reply<W>>,
     ghost bare: { Stands (S.RuleSource.meaning (source_of desk.trial)) (lists_of desk.trial) empty },
     ghost wide: { All (Wide (S.RuleSource.meaning (source_of desk.trial)).count) plans.items },
-    ghost enough: { length calls.now ≤ vec_len plans },
-    ghost room: { length calls.now ≤ vec_capacity replies },
+    ghost room: { vec_len plans ≤ vec_capacity replies },
     ghost none: { vec_len replies ≡ 0 },
 }
 
@@ -41,25 +39,20 @@ fn plan_memories(heap: Global, n: usize, many: usize) -> Result<Vec<PlanMemory>,
     Ok(all)
 }
 
-impl<'a, S: RuleSource, W: Measure> Prepared<'a, S, W> {
-    ghost use Rattle.trial.specs.Runs.{Ran, source_under, calls_of};
+impl<S: RuleSource, W: Measure> Prepared<S, W> {
+    ghost use Rattle.trial.specs.Runs.{Ran, Ready, source_under};
 
-    // A bare trial over the source, and all that a run of the calls takes from the heap.
-    pub fn new(
-        heap: Global,
-        source: S,
-        calls: &'a [Call<'a>],
-    ) -> Result<Prepared<'a, S, W>, AllocError>
+    // A bare trial over the source, and memory for so many calls: all that a run takes from the heap.
+    pub fn new(heap: Global, source: S, many: usize) -> Result<Prepared<S, W>, AllocError>
     where
         S: Drop,
-        ensures { IfOk result (λ d. (source_under d ≡ source) × (calls_of d ≡ calls.now)) }
+        ensures { IfOk result (λ d. (source_under d ≡ source) × Ready many d) }
     {
         let desk = Desk::new(heap, source)?;
         let n = desk.trial.count() as usize;
-        let plans = plan_memories(heap, n, calls.len())?;
-        let replies = Vec::with_capacity(heap, calls.len())?;
+        let plans = plan_memories(heap, n, many)?;
+        let replies = Vec::with_capacity(heap, many)?;
         Ok(Prepared {
-            calls,
             desk,
             plans,
             replies,
@@ -67,12 +60,12 @@ impl<'a, S: RuleSource, W: Measure> Prepared<'a, S, W> {
     }
 
     // Runs the calls, one after another, and gives what each is replied. It takes nothing from the heap, so it cannot fail.
-    pub fn run(self) -> Finished<S, W>
-        ensures ran { Ran W.zero W.added W.at_most (S.meaning (source_under self.entry)) empty (calls_of self.entry) result.replies.items }
-        ensures same { source_of result.trial ≡ source_under self.entry }
+    pub fn run(self, calls: &[Call]) -> Finished<S, W>
+        requires { Ready (length calls.now) self }
+        ensures ran { Ran W.zero W.added W.at_most (S.meaning (source_under self)) empty calls.now result.replies.items }
+        ensures same { source_of result.trial ≡ source_under self }
     {
         let Prepared {
-            calls,
             mut desk,
             plans,
             mut replies,
@@ -84,79 +77,5 @@ impl<'a, S: RuleSource, W: Measure> Prepared<'a, S, W> {
             trial: desk.trial,
             replies,
         }
-    }
-}
-
-#[cfg(test)]
-mod tests {
-    use super::Prepared;
-    use crate::calls::{Call, Change, Reply};
-    use rules::source::RuleSource;
-    use rules::weights::Steps;
-    use std::test::Fail;
-
-    // Two privileges, neither of which is granted.
-    #[derive(Drop)]
-    struct Two;
-
-    impl RuleSource for Two {
-        ghost use Rattle.std.specs.Prelude.{nat_lt, None};
-        ghost use Rattle.std.proofs.Common.{refl, lit≤, zero-le};
-        ghost use Rattle.std.proofs.lemmas.Bool.{ltb-true};
-        ghost use Rattle.std.proofs.lemmas.Option.{none-some};
-
-        ghost meaning = { λ _. record { count = 2; width = 0; live = λ p. nat_lt p 2; place = λ _. 0; slot = λ _ _. None } };
-
-        ghost lawful = { λ _. record {
-          count_at_most_8192 = lit≤ tt;
-          width_at_most_1024 = lit≤ tt;
-          place_at_most_255 = λ _. zero-le;
-          live_below_count = λ p l. ltb-true p 2 l;
-          place_0_from_count_on = λ _ _. refl;
-          dead_holds_nothing = λ _ _ _. refl;
-          nothing_from_width_on = λ _ _ _. refl;
-          slot_leads_to_live = λ _ _ p r e. absurd (none-some (p, r) e);
-        } };
-
-        fn count(&self) -> u16 {
-            2
-        }
-
-        fn width(&self) -> u16 {
-            0
-        }
-
-        fn live(&self, p: u16) -> bool {
-            p < 2
-        }
-
-        fn place(&self, _p: u16) -> u8 {
-            0
-        }
-
-        fn slot(&self, _g: u16, _k: u16) -> Option<(u16, u8)> {
-            None
-        }
-    }
-
-    #[test]
-    fn an_assumed_grant_leads_on(rt: HostRuntime) -> Result<(), Fail> {
-        let held = [1u8, 0];
-        let calls = [
-            Call::Ask(held.as_slice(), 1),
-            Call::Change(Change::Assume(0, 1)),
-            Call::Ask(held.as_slice(), 1),
-        ];
-        let prepared: Prepared<Two, Steps> = Prepared::new(rt.alloc(), Two, calls.as_slice())?;
-        let done = prepared.run();
-        assert_eq!(rt; done.replies.len(), 3);
-        assert!(rt; matches!(done.replies.get(0), Some(Reply::Asked(Err(_)))));
-        assert!(rt; matches!(done.replies.get(1), Some(Reply::Changed(Ok(())))));
-        let Some(Reply::Asked(Ok(plan))) = done.replies.get(2) else {
-            panic!(rt; "no plan");
-        };
-        assert_eq!(rt; plan.privileges.as_slice(), [0u16, 1].as_slice());
-        assert_eq!(rt; plan.rules.as_slice(), [0u8, 200].as_slice());
-        Ok(())
     }
 }

@@ -7,7 +7,7 @@ use rules::named::Named;
 use search::answer::Refusal;
 use std::io;
 use trial::calls::{Call, Change, Reply};
-use trial::prepared::Prepared;
+use trial::prepared_calls::PreparedCalls;
 
 // Prints an entry under its number, with the reply if it is a call.
 fn tell_entry<S: Named, W: Measure>(
@@ -26,7 +26,7 @@ fn tell_entry<S: Named, W: Measure>(
         }
         Entry::Change(Change::Bar(p)) => print_call(rt, source, number, Verb::Bar, &[*p])?,
         Entry::Change(Change::Lift(p)) => print_call(rt, source, number, Verb::Lift, &[*p])?,
-        Entry::Ask(start, _, goal) => print_call(rt, source, number, Verb::Ask, &[*start, *goal])?,
+        Entry::Ask(start, goal, _) => print_call(rt, source, number, Verb::Ask, &[*start, *goal])?,
         Entry::NoForm(verb) => {
             print_call(rt, source, number, *verb, &[])?;
             refuse(rt, Refusal::NotLive.into())?;
@@ -71,7 +71,7 @@ pub fn play<S: Named + Drop, W: Measure>(
         .iter()
         .filter_map(|entry| entry.call())
         .collect(heap)?;
-    let prepared: Prepared<S, W> = Prepared::new(heap, source, calls.as_slice())?;
+    let prepared: PreparedCalls<S, W> = PreparedCalls::new(heap, source, calls.as_slice())?;
     let done = prepared.run();
     tell(rt, &done.trial, entries.as_slice(), done.replies.as_slice())
 }

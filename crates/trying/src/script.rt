@@ -1,7 +1,7 @@
 // A script: a verb alone on a line, then its forms, one a line.
-ghost use Rattle.std.specs.Prelude.{◌<◌, ◌≤◌, length, MatchOption};
+ghost use Rattle.std.specs.Prelude.{◌≡◌, true, ◌<◌, ◌≤◌, length, MatchOption, IfSome};
 
-use answers::held_alone;
+use answers::held_at;
 use print::privilege_of;
 use rules::named::Named;
 use std::alloc::{AllocError, Global};
@@ -53,8 +53,8 @@ impl fmt::Display for Verb {
 #[derive(Drop)]
 pub enum Entry {
     Change(Change),
-    // start, the held bytes of which it alone is held, and goal
-    Ask(u16, Vec<u8>, u16),
+    // start, goal, and the held bytes of which the start alone is held; last, so that an entry takes no more room than they do
+    Ask(u16, u16, Vec<u8>),
     // a verb one of whose forms no live privilege prints
     NoForm(Verb),
     // the number of a line that is no verb where one is due
@@ -66,7 +66,7 @@ impl Entry {
     pub fn call<'a>(&'a self) -> Option<Call<'a>> {
         match self {
             Entry::Change(change) => Some(Call::Change(*change)),
-            Entry::Ask(_, held, goal) => Some(Call::Ask(held.as_slice(), *goal)),
+            Entry::Ask(_, goal, held) => Some(Call::Ask(held.as_slice(), *goal)),
             Entry::NoForm(_) | Entry::NoVerb(_) => None,
         }
     }
@@ -113,7 +113,8 @@ impl<'a> Reader<'a> {
 
     // The privilege that the next form names.
     fn privilege<S: Named>(&mut self, source: &S) -> Option<u16>
-        ensures { length self.new.rest.now ≤ length self.old.rest.now }
+        ensures left { length self.new.rest.now ≤ length self.old.rest.now }
+        ensures live { IfSome result (λ p. (S.RuleSource.meaning source.now).live p ≡ true) }
     {
         privilege_of(source, self.form()?)
     }
@@ -146,8 +147,8 @@ fn entry_of<S: Named>(
         (Verb::Bar, Some(p), None) => Ok(Entry::Change(Change::Bar(p))),
         (Verb::Lift, Some(p), None) => Ok(Entry::Change(Change::Lift(p))),
         (Verb::Ask, Some(start), Some(goal)) => {
-            let held = held_alone(heap, source.count() as usize, start)?;
-            Ok(Entry::Ask(start, held, goal))
+            let held = held_at(heap, source, start)?;
+            Ok(Entry::Ask(start, goal, held))
         }
         _ => Ok(Entry::NoForm(verb)),
     }

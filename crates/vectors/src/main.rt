@@ -90,10 +90,11 @@ fn read(rt: &HostRuntime, before: &Before, kind: Kind, text: &[u8]) -> io::Resul
 // The kind, the name and the length that a case begins with.
 fn head_of(line: &[u8]) -> Option<(Kind, &[u8], usize)> {
     let mut words = words(line);
-    let kind = number_of(words.next()?)?;
+    // a number past those of the kinds is taken for a .rhosts
+    let kind = Kind::try_from(number_of(words.next()?)?).unwrap_or(Kind::Rhosts);
     let name = words.next()?;
     let length = number_of(words.next()?)?;
-    Some((Kind::try_from(kind).ok()?, name, length as usize))
+    Some((kind, name, length as usize))
 }
 
 // A case, and what follows it.

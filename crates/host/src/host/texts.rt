@@ -2,7 +2,7 @@
 ghost use Rattle.std.specs.Prelude.{◌≡◌, ℕ, List, [], map, replicate, false, IfOk};
 ghost use Rattle.text.specs.Kept.{name_bytes};
 ghost use Rattle.host.specs.Tables.{lines_of, host_tables, unread_tables};
-ghost use Rattle.host.specs.Wanted.{first_unread};
+ghost use Rattle.host.specs.Wanted.{first_unread_with, first_unread};
 
 use super::Host;
 use crate::text_table::TextTable;
@@ -74,9 +74,9 @@ impl Host {
         self.clear();
     }
 
-    // The kind of the first text that is wanted and has not been read.
-    pub fn first_unread(&self) -> Option<Kind>
-        ensures { result ≡ first_unread (host_tables self.now) }
+    // The kind of the first text that is wanted and has not been read, where it is known whether some .rhosts is.
+    fn first_unread_with(&self, rhosts: bool) -> Option<Kind>
+        ensures { result ≡ first_unread_with (host_tables self.now) rhosts }
     {
         let texts = [
             (Kind::Passwd, !self.accounts.read),
@@ -84,11 +84,21 @@ impl Host {
             (Kind::Mtree, !self.files.read),
             (Kind::Equiv, !self.equiv.read),
             (Kind::Ypconf, !self.domain.read),
-            (Kind::Rhosts, self.wants_rhosts()),
+            (Kind::Rhosts, rhosts),
         ];
         texts
             .iter()
             .find(|(_, wanted)| *wanted)
             .map(|(kind, _)| *kind)
+    }
+
+    // The kind of the first text that is wanted and has not been read. The homes are looked through only where all the others have been.
+    pub fn first_unread(&self) -> Option<Kind>
+        ensures { result ≡ first_unread (host_tables self.now) }
+    {
+        if let Some(kind) = self.first_unread_with(false) {
+            return Some(kind);
+        }
+        self.first_unread_with(self.wants_rhosts())
     }
 }

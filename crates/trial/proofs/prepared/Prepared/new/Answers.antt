@@ -6,7 +6,6 @@ pub invariant_of-result : goal.invariant_of-result
 invariant_of-result g c = record {
   bare = c.in_ok-desk.ensures.1;
   wide = subst (λ n. All (Wide n) (vec_items c.in_ok-plans.plans)) c.count-n.ensures c.in_ok-plans.ensures.0;
-  enough = omega (arith, c.in_ok-plans.ensures.1);
-  room = omega (arith, c.in_ok-replies.ensures.capacity);
+  room = omega (arith, c.in_ok-replies.ensures.capacity, c.in_ok-plans.ensures.1);
   none = c.in_ok-replies.ensures.len;
 }

@@ -8,7 +8,7 @@ use Rattle.trial.proofs.prepared.Prepared.run.Goals as goal
 
 pub loop-call-init : goal.loop-call-init
 loop-call-init g c =
-    let calls : c.into_iter-call-iterator.result.a.rest.now ≡ c.args.self.calls.now = search rules in
+    let calls : c.into_iter-call-iterator.result.a.rest.now ≡ c.args.calls.now = search rules in
     let plans : c.into_iter-call-iterator.result.b.rest.items ≡ vec_items c.args.self.plans = search rules in
     record {
       same = refl;

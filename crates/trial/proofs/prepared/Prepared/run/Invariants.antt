@@ -13,5 +13,5 @@ invariant-loop-call g l =
       wide : All (Wide R.count) l.call-iterator.b.rest.items;
       enough : length l.call-iterator.a.rest.now ≤ length l.call-iterator.b.rest.items;
       room : vec_len l.replies + length l.call-iterator.a.rest.now ≤ vec_capacity l.replies;
-      onward : Onward g.W.Measure.zero g.W.Measure.added g.W.Measure.at_most R (lists_of l.desk.trial) empty l.fn.self.calls.now l.call-iterator.a.rest.now (vec_items l.replies);
+      onward : Onward g.W.Measure.zero g.W.Measure.added g.W.Measure.at_most R (lists_of l.desk.trial) empty l.fn.calls l.call-iterator.a.rest.now (vec_items l.replies);
     }
