@@ -3,6 +3,7 @@
 
 #[cfg(test)]
 mod tests {
+    use answers::held_at;
     use matrix::Matrix;
     use rules::measure::Measure;
     use rules::weights::{Crossings, Label, Steps};
@@ -100,6 +101,14 @@ mod tests {
             3,
             &[1, 2, 3],
         )?;
+        Ok(())
+    }
+
+    #[test]
+    fn the_start_alone_is_held(rt: HostRuntime) -> Result<(), Fail> {
+        let matrix = Matrix::new(rt.alloc(), 3).map_err(|_| Fail::new("no memory"))?;
+        let held = held_at(rt.alloc(), &matrix, 1)?;
+        assert_eq!(rt; held.as_slice(), [0u8, 1, 0].as_slice());
         Ok(())
     }
 
